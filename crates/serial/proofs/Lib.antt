@@ -1,0 +1,4 @@
+pub mod Bits
+pub mod Packing
+pub mod Reading
+pub mod Laws

@@ -1,0 +1,197 @@
+// The eight word forms: how a byte goes over the line as bits, and how bits are read as a byte.
+ghost use mathlib.Core.Path.{_≡_};
+ghost use Prim.Native.Nat.{ℕ, _+_, _%_, _^_, _<_, _≤_};
+ghost use mathlib.Core.Bool.{false};
+ghost use lib.Count.{ones};
+ghost use Rattle.serial.specs.Numbers.{Inverse};
+ghost use Rattle.serial.specs.Words.{selectOf, formOf, dataBits, parityOf, totalBits, wordOf, handed, bitsOf, marks, keptOf, readOf, syncFill, markFill, readFlipped, One-word, Reads-words, Reads-back, One-flip-marks};
+
+// Six, seven or eight data bits, bare or followed by a parity bit.
+#[derive(Clone, Copy)]
+pub enum Form {
+    SixEven,
+    SixOdd,
+    Seven,
+    Eight,
+    SevenEven,
+    SevenOdd,
+    EightEven,
+    EightOdd,
+}
+
+// What follows the data bits: nothing, or the bit that makes the count of ones even or odd.
+#[derive(Clone, Copy)]
+pub enum Parity {
+    Bare,
+    Even,
+    Odd,
+}
+
+impl Form {
+    // The form that the word select bits WS3 WS2 WS1 choose; none above 7.
+    pub fn from_select(select: u8) -> Option<Form>
+        ensures form { λ r. ⌜ r ≡ formOf select ⌝ }
+        ensures inverse { λ _. ⌜ Inverse selectOf formOf ⌝ }
+    {
+        match select {
+            0b000 => Some(Form::SixEven),
+            0b001 => Some(Form::SixOdd),
+            0b010 => Some(Form::Seven),
+            0b011 => Some(Form::Eight),
+            0b100 => Some(Form::SevenEven),
+            0b101 => Some(Form::SevenOdd),
+            0b110 => Some(Form::EightEven),
+            0b111 => Some(Form::EightOdd),
+            _ => None,
+        }
+    }
+
+    // The word select bits that choose this form.
+    pub fn select(self) -> u8
+        ensures { λ r. ⌜ r ≡ selectOf self ⌝ }
+    {
+        match self {
+            Form::SixEven => 0b000,
+            Form::SixOdd => 0b001,
+            Form::Seven => 0b010,
+            Form::Eight => 0b011,
+            Form::SevenEven => 0b100,
+            Form::SevenOdd => 0b101,
+            Form::EightEven => 0b110,
+            Form::EightOdd => 0b111,
+        }
+    }
+
+    // How many data bits a word has.
+    pub fn data_bits(self) -> u8
+        ensures { λ r. ⌜ r ≡ dataBits self ⌝ }
+    {
+        match self {
+            Form::SixEven | Form::SixOdd => 6,
+            Form::Seven | Form::SevenEven | Form::SevenOdd => 7,
+            Form::Eight | Form::EightEven | Form::EightOdd => 8,
+        }
+    }
+
+    pub fn parity(self) -> Parity
+        ensures { λ r. ⌜ r ≡ parityOf self ⌝ }
+    {
+        match self {
+            Form::Seven | Form::Eight => Parity::Bare,
+            Form::SixEven | Form::SevenEven | Form::EightEven => Parity::Even,
+            Form::SixOdd | Form::SevenOdd | Form::EightOdd => Parity::Odd,
+        }
+    }
+
+    // How many bits a word has with its parity.
+    pub fn total_bits(self) -> u8
+        ensures { λ r. ⌜ r ≡ totalBits self ⌝ }
+    {
+        match self.parity() {
+            Parity::Bare => self.data_bits(),
+            Parity::Even | Parity::Odd => self.data_bits() + 1,
+        }
+    }
+}
+
+// The `count` lowest bits of a word, and zeros above them.
+fn lowest(word: u16, count: u8) -> u16
+    requires { ⌜ count < 16 ⌝ }
+    ensures { λ r. ⌜ r ≡ word % 2 ^ count ⌝ }
+{
+    word % (1 << count)
+}
+
+// 1 where the count of ones is odd, else 0.
+fn odd_ones(word: u16) -> u16
+    ensures { λ r. ⌜ r ≡ ones word % 2 ⌝ }
+{
+    (word.count_ones() % 2) as u16
+}
+
+impl Form {
+    // The word of a byte: its bits as a number, the first one on the line lowest, and how many there are.
+    pub fn pack(self, byte: u8) -> (u16, u8)
+        ensures word { λ r. ⌜ r ≡ handed (wordOf self byte) ⌝ }
+        ensures law { λ _. ⌜ One-word ⌝ }
+    {
+        let width = self.data_bits();
+        let data = lowest(u16::from(byte), width);
+        match self.parity() {
+            Parity::Bare => (data, width),
+            Parity::Even => (data | odd_ones(data) << width, width + 1),
+            Parity::Odd => (data | (1 - odd_ones(data)) << width, width + 1),
+        }
+    }
+
+    // What the form takes of a byte: its data bits, with zeros above them.
+    pub fn keep(self, byte: u8) -> u8
+        ensures { λ r. ⌜ r ≡ keptOf self byte ⌝ }
+    {
+        lowest(u16::from(byte), self.data_bits()) as u8
+    }
+
+    // A word read: its data bits, with zeros above them, and its parity mark. Bits past the word's last don't matter.
+    pub fn unpack(self, word: u16) -> (u8, bool)
+        ensures value { λ r. ⌜ r ≡ readOf self (bitsOf (totalBits self) word) ⌝ }
+        ensures law { λ _. ⌜ Reads-words ⌝ }
+    {
+        let data = lowest(word, self.data_bits());
+        let whole = lowest(word, self.total_bits());
+        (data as u8, self.parity().marks(whole))
+    }
+
+    // What goes out for want of a byte, if sync fill is chosen: the sync code.
+    pub fn sync_fill(self, code: u8) -> (u16, u8)
+        ensures { λ r. ⌜ r ≡ handed (syncFill self code) ⌝ }
+    {
+        let total = self.total_bits();
+        if total == 9 {
+            self.pack(code)
+        } else {
+            (lowest(u16::from(code), total), total)
+        }
+    }
+
+    // What goes out for want of a byte otherwise: ones.
+    pub fn mark_fill(self) -> (u16, u8)
+        ensures { λ r. ⌜ r ≡ handed (markFill self) ⌝ }
+    {
+        let total = self.total_bits();
+        ((1 << total) - 1, total)
+    }
+
+    // A byte sent and read back.
+    pub fn read_back(self, byte: u8) -> (u8, bool)
+        ensures value { λ r. ⌜ r ≡ (keptOf self byte, false) ⌝ }
+        ensures always { λ _. ⌜ Reads-back ⌝ }
+    {
+        let (word, _) = self.pack(byte);
+        self.unpack(word)
+    }
+
+    // A byte sent and read back with one bit turned over on the line; none where the word has no bit at that place.
+    pub fn read_flipped(self, byte: u8, place: u8) -> Option<(u8, bool)>
+        ensures value { λ r. ⌜ r ≡ readFlipped self byte place ⌝ }
+        ensures always { λ _. ⌜ One-flip-marks ⌝ }
+    {
+        if place >= self.total_bits() {
+            return None;
+        }
+        let (word, _) = self.pack(byte);
+        Some(self.unpack(word ^ (1 << place)))
+    }
+}
+
+impl Parity {
+    // Whether a word, all its bits, gets the parity mark.
+    fn marks(self, word: u16) -> bool
+        ensures { λ r. ⌜ r ≡ marks self (ones word) ⌝ }
+    {
+        match self {
+            Parity::Bare => false,
+            Parity::Even => odd_ones(word) == 1,
+            Parity::Odd => odd_ones(word) == 0,
+        }
+    }
+}
