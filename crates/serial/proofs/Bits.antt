@@ -5,12 +5,12 @@ use Prim.Native.Nat.{ℕ, zero, suc, _+_, _-_, _*_, _/_, _%_, _^_, _<_, _≤_}
 use native.Mathlib.Nat.{le-of-suc-le-suc, mul-comm, mul-assoc, pow-suc, mod-lt, mod-one}
 use native.Mathlib.Numerals.{add-one, one-add}
 use native.Mathlib.Omega.{arith}
-use lib.Bits.{bitXor, xor-step, xor-zero-r, differ}
+use lib.Bits.{bitOr, or-shifted-r, bitXor, xor-step, xor-zero-r, differ}
 use lib.Count.{ones, ones-cat}
 use lib.Dec.{lit<}
 use lib.ListN.{length, getD, take}
 use lib.Pow.{mod-pow-add, pow-pos}
-use Rattle.std.proofs.shelf.Bits.{shr-shr}
+use Rattle.std.proofs.shelf.Bits.{shr-shr, shl-whole}
 use Rattle.serial.specs.Words.{bitsOf, valueOf, onesIn, flipped}
 
 -- every bit is 0 or 1
@@ -109,7 +109,7 @@ differ-zero : (x : ℕ) → differ x 0 ≡ x
 differ-zero zero = refl
 differ-zero (suc x) = refl
 
--- a number with its lowest bit turned over, and with a higher one
+-- a number with its lowest bit flipped, and with a higher one
 xor-lowest : (w : ℕ) → bitXor w 1 ≡ w / 2 * 2 + (1 - w % 2)
 xor-lowest w = xor-step w 1 ∙ ap₂ (λ h l. h * 2 + l) (xor-zero-r (w / 2)) (differ-one (w % 2) (omega arith))
 
@@ -119,7 +119,7 @@ xor-higher w i =
     ∙ ap₂ (λ h l. bitXor (w / 2) h * 2 + differ (w % 2) l) (omega (arith, pow-suc 2 i)) (omega (arith, pow-suc 2 i))
     ∙ ap (λ l. bitXor (w / 2) (2 ^ i) * 2 + l) (differ-zero (w % 2))
 
--- the exclusive or with a power of two turns over the bit at its place
+-- the exclusive or with a power of two flips the bit at its place
 pub bits-xor : (n w i : ℕ) → i < n → bitsOf n (bitXor w (2 ^ i)) ≡ flipped i (bitsOf n w)
 bits-xor zero w i h = absurd (omega arith)
 bits-xor (suc n) w zero h =
@@ -128,7 +128,7 @@ bits-xor (suc n) w (suc i) h =
     ap₂ (λ x m. x ∷ bitsOf n m) (omega (arith, xor-higher w i)) (omega (arith, xor-higher w i))
     ∙ ap (λ xs. w % 2 ∷ xs) (bits-xor n (w / 2) i (le-of-suc-le-suc h))
 
--- one bit turned over makes an even count of ones odd, and an odd one even
+-- one flipped bit makes an even count of ones odd, and an odd one even
 pub flip-turns : (w : List ℕ) → Bits w → (i : ℕ) → i < length w → (onesIn (flipped i w) + onesIn w) % 2 ≡ 1
 flip-turns [] none i h = absurd (omega arith)
 flip-turns (x ∷ xs) (more k ks) zero h = omega arith
@@ -148,3 +148,10 @@ pub bits-take : (n : ℕ) (w : List ℕ) → Bits w → Bits (take n w)
 bits-take zero w h = none
 bits-take (suc n) [] h = none
 bits-take (suc n) (x ∷ xs) (more k ks) = more k (bits-take n xs ks)
+
+-- n bits of a byte with the bit x set above them, as one number, are those bits and then x
+pub value-with : (n b x : ℕ) → n ≤ 15 → x < 2 → bitOr (b % 2 ^ n) (x * 2 ^ n % 65536) ≡ valueOf (bitsOf n b ++ x ∷ [])
+value-with n b x within bit =
+    ap (bitOr (b % 2 ^ n)) (shl-whole x 1 n 16 bit (omega arith))
+    ∙ or-shifted-r x n (b % 2 ^ n) (mod-lt b (pow-pos n))
+    ∙ omega (arith, value-push (bitsOf n b) x, value-bits n b, ap (λ k. x * 2 ^ k) (length-bits n b))

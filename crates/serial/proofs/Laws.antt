@@ -1,4 +1,4 @@
--- The laws of words: one word for each byte, read back clean, and marked where one bit was turned over. Assumes nothing.
+-- The laws of words: one word for each byte, read back clean, and marked where one bit was flipped. Assumes nothing.
 use mathlib.Core.Path.{_≡_, refl, sym, _∙_, ap, ap₂, subst}
 use mathlib.Core.Bool.{Bool, true, false}
 use mathlib.Core.Logic.{inl, inr}
@@ -6,20 +6,30 @@ use mathlib.Core.List.{List, [], _∷_, _++_}
 use Prim.Native.Nat.{ℕ, zero, suc, _+_, _*_, _/_, _%_, _^_, _<_, _≤_}
 use native.Mathlib.Omega.{arith}
 use native.Mathlib.Nat.{add-zero}
-use lib.Bits.{bitXor}
+use lib.Dec.{lit≤}
 use lib.ListN.{length, getD, take, drop, length-append, length-drop, length-take}
-use Rattle.std.proofs.shelf.Bits.{one-shl}
 use Rattle.std.proofs.shelf.Lists.{take-at, take-append-drop, getD-append-left, getD-take, getD-drop, ext-getD, append-nil, length-take-le}
 use Rattle.std.proofs.shelf.Tests.{eq-eqb, ne-eqb, cases-eq}
 use Rattle.serial.specs.declared.word.Form.{Form}
+use Rattle.serial.specs.declared.word.Form.the-variants.{SixEven, SixOdd, Seven, Eight, SevenEven, SevenOdd, EightEven, EightOdd}
 use Rattle.serial.specs.declared.word.Parity.{Parity}
 use Rattle.serial.specs.declared.word.Parity.the-variants.{Bare, Even, Odd}
 use Rattle.serial.specs.Words.{dataBits, parityOf, parityBits, totalBits, bitsOf, valueOf, onesIn, parityAfter, wordOf, marks, markOf, hasParity, flipped, Right, IsWord, One-word, Reads-words, Reads-back, One-flip-marks}
-use Rattle.serial.proofs.Bits.{Bits, none, more, bits-are, length-bits, value-bits, ones-push, bit-at, bit-below, bits-push, bits-value, bits-xor, bits-from, bits-take, value-below, value-bit-at, flip-turns}
-use Rattle.serial.proofs.Packing.{data-within}
+use Rattle.serial.proofs.Bits.{Bits, none, more, bits-are, length-bits, value-bits, ones-push, bit-at, bit-below, bits-push, bits-value, bits-from, bits-take, value-below, value-bit-at, flip-turns}
+
+-- no form has more than eight data bits
+data-within : (f : Form) → dataBits f ≤ 8
+data-within SixEven = lit≤ tt
+data-within SixOdd = lit≤ tt
+data-within Seven = lit≤ tt
+data-within Eight = lit≤ tt
+data-within SevenEven = lit≤ tt
+data-within SevenOdd = lit≤ tt
+data-within EightEven = lit≤ tt
+data-within EightOdd = lit≤ tt
 
 -- no form has more than nine bits
-total-within : (f : Form) → totalBits f ≤ 9
+pub total-within : (f : Form) → totalBits f ≤ 9
 total-within f = within (parityOf f) (data-within f)
   where
     within : (p : Parity) {d : ℕ} → d ≤ 8 → d + parityBits p ≤ 9
@@ -57,13 +67,6 @@ word-length f b =
 pub word-handed : (f : Form) (b : ℕ) → bitsOf (totalBits f) (valueOf (wordOf f b)) ≡ wordOf f b
 word-handed f b =
     ap (λ n. bitsOf n (valueOf (wordOf f b))) (sym (word-length f b)) ∙ bits-value (wordOf f b) (word-bits f b)
-
--- and with the bit at place i turned over they are the word so turned
-pub flip-handed : (f : Form) (b i : ℕ) → i < totalBits f → bitsOf (totalBits f) (bitXor (valueOf (wordOf f b)) (1 * 2 ^ i % 65536)) ≡ flipped i (wordOf f b)
-flip-handed f b i h =
-    ap (λ m. bitsOf (totalBits f) (bitXor (valueOf (wordOf f b)) m)) (one-shl i 16 (omega (arith, total-within f)))
-    ∙ bits-xor (totalBits f) (valueOf (wordOf f b)) i h
-    ∙ ap (flipped i) (word-handed f b)
 
 -- the word of a byte has what makes it that word
 word-is : (f : Form) (b : ℕ) → IsWord f b (wordOf f b)

@@ -1,4 +1,2 @@
 pub mod Bits
-pub mod Packing
-pub mod Reading
 pub mod Laws

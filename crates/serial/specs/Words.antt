@@ -118,13 +118,13 @@ syncFill f c = codeBits f c ++ cond (eqb (totalBits f) 9) (parityAfter (parityOf
 abbrev pub markFill : Form → List ℕ
 markFill f = replicate (totalBits f) 1
 
--- the bit at place i, counted from 0, turned over
+-- the bit at place i, counted from 0, flipped
 abbrev pub flipped : ℕ → List ℕ → List ℕ
 flipped i [] = []
 flipped zero (x ∷ xs) = (1 - x) ∷ xs
 flipped (suc i) (x ∷ xs) = x ∷ flipped i xs
 
--- a byte sent with the bit at place i turned over on the line, and read; nothing where the word has no such place
+-- a byte sent with the bit at place i flipped on the line, and read; nothing where the word has no such place
 abbrev pub readFlipped : Form → ℕ → ℕ → Option (ℕ × Bool)
 readFlipped f b i = cond (ltb i (totalBits f)) (Some (readOf f (flipped i (wordOf f b)))) None
 
@@ -169,6 +169,6 @@ hasParity Bare = false
 hasParity Even = true
 hasParity Odd = true
 
--- one bit turned over on the line, whichever it is, sets the parity mark in a form with parity, and never in a bare form
+-- one bit flipped on the line, whichever it is, sets the parity mark in a form with parity, and never in a bare form
 abbrev pub One-flip-marks : Type 0
 One-flip-marks = (f : Form) (b i : ℕ) → i < totalBits f → markOf f (flipped i (wordOf f b)) ≡ hasParity (parityOf f)

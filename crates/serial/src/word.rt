@@ -2,9 +2,9 @@
 ghost use mathlib.Core.Path.{_≡_};
 ghost use Prim.Native.Nat.{ℕ, _+_, _%_, _^_, _<_, _≤_};
 ghost use mathlib.Core.Bool.{false};
-ghost use lib.Count.{ones};
+ghost use mathlib.Core.List.{[], _∷_, _++_};
 ghost use Rattle.serial.specs.Numbers.{Inverse};
-ghost use Rattle.serial.specs.Words.{selectOf, formOf, dataBits, parityOf, totalBits, wordOf, handed, bitsOf, marks, keptOf, readOf, syncFill, markFill, readFlipped, One-word, Reads-words, Reads-back, One-flip-marks};
+ghost use Rattle.serial.specs.Words.{selectOf, forms, formOf, dataBits, parityOf, totalBits, wordOf, handed, valueOf, onesIn, bitsOf, marks, keptOf, readOf, syncFill, markFill, flipped, readFlipped, One-word, Reads-words, Reads-back, One-flip-marks};
 
 // Six, seven or eight data bits, bare or followed by a parity bit.
 #[derive(Clone, Copy)]
@@ -28,6 +28,22 @@ pub enum Parity {
 }
 
 impl Form {
+    // The eight forms, in the order of their select bits.
+    pub fn all() -> [Form; 8]
+        ensures { λ r. ⌜ r ≡ forms ⌝ }
+    {
+        [
+            Form::SixEven,
+            Form::SixOdd,
+            Form::Seven,
+            Form::Eight,
+            Form::SevenEven,
+            Form::SevenOdd,
+            Form::EightEven,
+            Form::EightOdd,
+        ]
+    }
+
     // The form that the word select bits WS3 WS2 WS1 choose; none above 7.
     pub fn from_select(select: u8) -> Option<Form>
         ensures form { λ r. ⌜ r ≡ formOf select ⌝ }
@@ -73,6 +89,7 @@ impl Form {
         }
     }
 
+    // What follows the data bits of a word.
     pub fn parity(self) -> Parity
         ensures { λ r. ⌜ r ≡ parityOf self ⌝ }
     {
@@ -92,35 +109,17 @@ impl Form {
             Parity::Even | Parity::Odd => self.data_bits() + 1,
         }
     }
-}
 
-// The `count` lowest bits of a word, and zeros above them.
-fn lowest(word: u16, count: u8) -> u16
-    requires { ⌜ count < 16 ⌝ }
-    ensures { λ r. ⌜ r ≡ word % 2 ^ count ⌝ }
-{
-    word % (1 << count)
-}
-
-// 1 where the count of ones is odd, else 0.
-fn odd_ones(word: u16) -> u16
-    ensures { λ r. ⌜ r ≡ ones word % 2 ⌝ }
-{
-    (word.count_ones() % 2) as u16
-}
-
-impl Form {
     // The word of a byte: its bits as a number, the first one on the line lowest, and how many there are.
     pub fn pack(self, byte: u8) -> (u16, u8)
-        ensures word { λ r. ⌜ r ≡ handed (wordOf self byte) ⌝ }
-        ensures law { λ _. ⌜ One-word ⌝ }
+        ensures { λ r. ⌜ r ≡ handed (wordOf self byte) ⌝ }
     {
         let width = self.data_bits();
-        let data = lowest(u16::from(byte), width);
+        let data = u16::from(byte);
         match self.parity() {
-            Parity::Bare => (data, width),
-            Parity::Even => (data | odd_ones(data) << width, width + 1),
-            Parity::Odd => (data | (1 - odd_ones(data)) << width, width + 1),
+            Parity::Bare => (lowest(data, width), width),
+            Parity::Even => (append(data, width, odd_ones(data, width)), width + 1),
+            Parity::Odd => (append(data, width, 1 - odd_ones(data, width)), width + 1),
         }
     }
 
@@ -133,12 +132,10 @@ impl Form {
 
     // A word read: its data bits, with zeros above them, and its parity mark. Bits past the word's last don't matter.
     pub fn unpack(self, word: u16) -> (u8, bool)
-        ensures value { λ r. ⌜ r ≡ readOf self (bitsOf (totalBits self) word) ⌝ }
-        ensures law { λ _. ⌜ Reads-words ⌝ }
+        ensures { λ r. ⌜ r ≡ readOf self (bitsOf (totalBits self) word) ⌝ }
     {
         let data = lowest(word, self.data_bits());
-        let whole = lowest(word, self.total_bits());
-        (data as u8, self.parity().marks(whole))
+        (data as u8, self.parity().marks(word, self.total_bits()))
     }
 
     // What goes out for want of a byte, if sync fill is chosen: the sync code.
@@ -161,37 +158,83 @@ impl Form {
         ((1 << total) - 1, total)
     }
 
-    // A byte sent and read back.
+    // A byte sent and read back: its data bits, with clean parity.
     pub fn read_back(self, byte: u8) -> (u8, bool)
         ensures value { λ r. ⌜ r ≡ (keptOf self byte, false) ⌝ }
-        ensures always { λ _. ⌜ Reads-back ⌝ }
+        ensures one_word { λ _. ⌜ One-word ⌝ }
+        ensures reads_words { λ _. ⌜ Reads-words ⌝ }
+        ensures reads_back { λ _. ⌜ Reads-back ⌝ }
     {
-        let (word, _) = self.pack(byte);
-        self.unpack(word)
+        self.unpack(self.send(byte))
     }
 
-    // A byte sent and read back with one bit turned over on the line; none where the word has no bit at that place.
+    // A byte sent and read back with one bit flipped on the line; none where the word has no bit at that place.
     pub fn read_flipped(self, byte: u8, place: u8) -> Option<(u8, bool)>
         ensures value { λ r. ⌜ r ≡ readFlipped self byte place ⌝ }
-        ensures always { λ _. ⌜ One-flip-marks ⌝ }
+        ensures one_flip_marks { λ _. ⌜ One-flip-marks ⌝ }
     {
         if place >= self.total_bits() {
             return None;
         }
+        Some(self.unpack(self.send_flipped(byte, place)))
+    }
+
+    // What a byte puts on the line. Its promises bring the laws of words to the calls above.
+    fn send(self, byte: u8) -> u16
+        ensures word { λ r. ⌜ bitsOf (totalBits self) r ≡ wordOf self byte ⌝ }
+        ensures one_word { λ _. ⌜ One-word ⌝ }
+        ensures reads_words { λ _. ⌜ Reads-words ⌝ }
+        ensures reads_back { λ _. ⌜ Reads-back ⌝ }
+    {
         let (word, _) = self.pack(byte);
-        Some(self.unpack(word ^ (1 << place)))
+        word
+    }
+
+    // What a byte puts on the line if the bit at one place is flipped there.
+    fn send_flipped(self, byte: u8, place: u8) -> u16
+        requires { ⌜ place < totalBits self ⌝ }
+        ensures word { λ r. ⌜ bitsOf (totalBits self) r ≡ flipped place (wordOf self byte) ⌝ }
+        ensures one_flip_marks { λ _. ⌜ One-flip-marks ⌝ }
+    {
+        self.send(byte) ^ (1 << place)
     }
 }
 
 impl Parity {
-    // Whether a word, all its bits, gets the parity mark.
-    fn marks(self, word: u16) -> bool
-        ensures { λ r. ⌜ r ≡ marks self (ones word) ⌝ }
+    // Whether a word of `count` bits gets the parity mark.
+    fn marks(self, word: u16, count: u8) -> bool
+        requires { ⌜ count < 16 ⌝ }
+        ensures { λ r. ⌜ r ≡ marks self (onesIn (bitsOf count word)) ⌝ }
     {
         match self {
             Parity::Bare => false,
-            Parity::Even => odd_ones(word) == 1,
-            Parity::Odd => odd_ones(word) == 0,
+            Parity::Even => odd_ones(word, count) == 1,
+            Parity::Odd => odd_ones(word, count) == 0,
         }
     }
+}
+
+// The `count` lowest bits of a word, and zeros above them.
+fn lowest(word: u16, count: u8) -> u16
+    requires { ⌜ count < 16 ⌝ }
+    ensures value { λ r. ⌜ r ≡ valueOf (bitsOf count word) ⌝ }
+    ensures rest { λ r. ⌜ r ≡ word % 2 ^ count ⌝ }
+{
+    word % (1 << count)
+}
+
+// 1 where the count of ones among the `count` lowest bits is odd, else 0.
+fn odd_ones(word: u16, count: u8) -> u16
+    requires { ⌜ count < 16 ⌝ }
+    ensures { λ r. ⌜ r ≡ onesIn (bitsOf count word) % 2 ⌝ }
+{
+    (lowest(word, count).count_ones() % 2) as u16
+}
+
+// The `count` lowest bits of a word, and one bit more above them.
+fn append(word: u16, count: u8, bit: u16) -> u16
+    requires { ⌜ count < 15 ⌝ ∗ ⌜ bit < 2 ⌝ }
+    ensures { λ r. ⌜ r ≡ valueOf (bitsOf count word ++ bit ∷ []) ⌝ }
+{
+    lowest(word, count) | bit << count
 }
