@@ -2,7 +2,7 @@
 use mathlib.Core.Path.{_≡_, refl, sym, _∙_, ap, ap₂, subst}
 use mathlib.Core.Bool.{Bool, true, false, cond}
 use mathlib.Core.List.{List, [], _∷_, _++_, map}
-use Prim.Native.Nat.{ℕ, _+_, _*_, _≤_, _<_, zero-le}
+use Prim.Native.Nat.{ℕ, _+_, _≤_, _<_, zero-le}
 use native.Mathlib.Nat.{mul-comm, mul-le-mul-left, le-refl}
 use native.Mathlib.Omega.{arith}
 use lib.Dec.{leb}
@@ -10,15 +10,13 @@ use lib.ListN.{length, getD, take}
 use Rattle.std.proofs.shelf.Lists.{map-more}
 use Rattle.std.proofs.shelf.Sums.{folded-more}
 use Rattle.std.proofs.shelf.Tests.{leb-true, cond-true, cond-false}
-use Rattle.std.specs.declared.result.Result.{Result}
 use Rattle.std.specs.declared.result.Result.the-variants.{Ok, Err}
 use Rattle.serial.specs.declared.word.Form.{Form}
 use Rattle.serial.specs.declared.word.Form.the-variants.{SixEven}
-use Rattle.serial.specs.Words.{forms, totalBits, parityOf, hasParity}
+use Rattle.serial.specs.Words.{forms, parityOf, hasParity}
 use Rattle.serial.proofs.Laws.{total-within}
 use Rattle.loopback.specs.declared.tally.Tally.{Tally}
 use Rattle.loopback.specs.declared.tally.Row.{Row}
-use Rattle.loopback.specs.declared.tally.Fault.{Fault}
 use Rattle.loopback.specs.declared.tally.Fault.the-variants.{TooLong}
 use Rattle.loopback.specs.Exchange.{tallyOf, exchanged, Within, none, sumOf, rowOf, totalOf}
 

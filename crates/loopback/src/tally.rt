@@ -1,7 +1,6 @@
 // What comes of an order on the line, counted.
 ghost use mathlib.Core.Path.{_≡_};
-ghost use mathlib.Core.Bool.{cond};
-ghost use Prim.Native.Nat.{ℕ, _+_, _*_, _<_, _≤_};
+ghost use Prim.Native.Nat.{_+_, _*_, _<_};
 ghost use lib.ListN.{length};
 ghost use Rattle.serial.specs.Words.{totalBits};
 ghost use Rattle.loopback.specs.declared.tally.Fault.the-variants.{NoMemory};

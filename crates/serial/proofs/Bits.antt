@@ -2,7 +2,7 @@
 use mathlib.Core.Path.{_≡_, refl, sym, _∙_, ap, ap₂}
 use mathlib.Core.List.{List, [], _∷_, _++_}
 use Prim.Native.Nat.{ℕ, zero, suc, _+_, _-_, _*_, _/_, _%_, _^_, _<_, _≤_}
-use native.Mathlib.Nat.{le-of-suc-le-suc, mul-comm, mul-assoc, pow-suc, mod-lt, mod-one}
+use native.Mathlib.Nat.{le-of-suc-le-suc, mul-assoc, pow-suc, mod-lt, mod-one}
 use native.Mathlib.Numerals.{add-one, one-add}
 use native.Mathlib.Omega.{arith}
 use lib.Bits.{bitOr, or-shifted-r, bitXor, xor-step, xor-zero-r, differ}

@@ -1,11 +1,10 @@
 -- The laws of words: one word for each byte, read back clean, and marked where one bit was flipped. Assumes nothing.
 use mathlib.Core.Path.{_≡_, refl, sym, _∙_, ap, ap₂, subst}
-use mathlib.Core.Bool.{Bool, true, false}
+use mathlib.Core.Bool.{true, false}
 use mathlib.Core.Logic.{inl, inr}
 use mathlib.Core.List.{List, [], _∷_, _++_}
-use Prim.Native.Nat.{ℕ, zero, suc, _+_, _*_, _/_, _%_, _^_, _<_, _≤_}
+use Prim.Native.Nat.{ℕ, _+_, _%_, _^_, _<_, _≤_}
 use native.Mathlib.Omega.{arith}
-use native.Mathlib.Nat.{add-zero}
 use lib.Dec.{lit≤}
 use lib.ListN.{length, getD, take, drop, length-append, length-drop, length-take}
 use Rattle.std.proofs.shelf.Lists.{take-at, take-append-drop, getD-append-left, getD-take, getD-drop, ext-getD, append-nil, length-take-le}
@@ -14,8 +13,8 @@ use Rattle.serial.specs.declared.word.Form.{Form}
 use Rattle.serial.specs.declared.word.Form.the-variants.{SixEven, SixOdd, Seven, Eight, SevenEven, SevenOdd, EightEven, EightOdd}
 use Rattle.serial.specs.declared.word.Parity.{Parity}
 use Rattle.serial.specs.declared.word.Parity.the-variants.{Bare, Even, Odd}
-use Rattle.serial.specs.Words.{dataBits, parityOf, parityBits, totalBits, bitsOf, valueOf, onesIn, parityAfter, wordOf, marks, markOf, hasParity, flipped, Right, IsWord, One-word, Reads-words, Reads-back, One-flip-marks}
-use Rattle.serial.proofs.Bits.{Bits, none, more, bits-are, length-bits, value-bits, ones-push, bit-at, bit-below, bits-push, bits-value, bits-from, bits-take, value-below, value-bit-at, flip-turns}
+use Rattle.serial.specs.Words.{dataBits, parityOf, parityBits, totalBits, bitsOf, valueOf, onesIn, parityAfter, wordOf, marks, hasParity, flipped, Right, IsWord, One-word, Reads-words, Reads-back, One-flip-marks}
+use Rattle.serial.proofs.Bits.{Bits, bits-are, length-bits, value-bits, ones-push, bit-at, bit-below, bits-push, bits-value, bits-from, bits-take, value-below, value-bit-at, flip-turns}
 
 -- no form has more than eight data bits
 data-within : (f : Form) → dataBits f ≤ 8

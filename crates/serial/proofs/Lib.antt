@@ -1,2 +1,9 @@
 pub mod Bits
 pub mod Laws
+pub mod Lifelines
+pub mod Places
+pub mod Standing
+pub mod Tellings
+pub mod Carried
+pub mod Pinning
+pub mod Moves

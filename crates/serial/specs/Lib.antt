@@ -1,3 +1,9 @@
 pub mod Numbers
 pub mod Words
 pub mod Examples
+pub mod Queue
+pub mod Lives
+pub mod Life
+pub mod Telling
+pub mod Moves
+pub mod Lived

@@ -1,6 +1,6 @@
 // The eight word forms: how a byte goes over the line as bits, and how bits are read as a byte.
 ghost use mathlib.Core.Path.{_≡_};
-ghost use Prim.Native.Nat.{ℕ, _+_, _%_, _^_, _<_, _≤_};
+ghost use Prim.Native.Nat.{_+_, _%_, _^_, _<_};
 ghost use mathlib.Core.Bool.{false};
 ghost use mathlib.Core.List.{[], _∷_, _++_};
 ghost use Rattle.serial.specs.Numbers.{Inverse};
