@@ -1,7 +1,12 @@
 // The same promises on the compiled code, at examples and at the limits.
 use crate::tally::Fault;
 use crate::tally::tabulate;
+use serial::account::Account;
 use serial::example::worked_examples;
+use serial::queue::Numbers;
+use serial::slip::ReceiveCode;
+use serial::slip::ShiftCode;
+use serial::slip::Slip;
 use serial::word::Form;
 use std::test::*;
 
@@ -37,4 +42,39 @@ fn an_order_above_the_limit_is_refused(rt: LibcRuntime) -> Result<(), Fail> {
     check(tabulate(rt.alloc(), order.as_slice()).is_ok())?;
     order.push(0x41)?;
     check(matches!(tabulate(rt.alloc(), order.as_slice()), Err(Fault::TooLong)))
+}
+
+// A slip with one receive code, and three numbers for it.
+fn receive_slip(receive: ReceiveCode, first: u32, second: u32, third: u32) -> Slip {
+    let mut slip = Slip::quiet();
+    slip.receive = receive;
+    slip.received = Numbers {
+        first,
+        second,
+        third,
+    };
+    slip
+}
+
+#[test]
+fn the_account_counts_each_number_once() -> Result<(), Fail> {
+    let mut sending = Slip::quiet();
+    sending.shift = ShiftCode::Bit;
+    sending.shifted = 1;
+    let slips = [
+        receive_slip(ReceiveCode::Delivered, 1, 0, 0),
+        receive_slip(ReceiveCode::DeliveredMarked, 2, 0, 0),
+        receive_slip(ReceiveCode::Cleared, 3, 4, 5),
+        receive_slip(ReceiveCode::Nothing, 6, 7, 8),
+        sending,
+    ];
+    match Account::of(&slips) {
+        Ok(account) => {
+            check_eq(account.delivered, 2)?;
+            check_eq(account.received_cleared, 3)?;
+            check_eq(account.lost, 0)?;
+            check_eq(account.sent, 0)
+        }
+        Err(_) => Err(Fail::new("refused")),
+    }
 }

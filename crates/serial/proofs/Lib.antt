@@ -7,3 +7,4 @@ pub mod Tellings
 pub mod Carried
 pub mod Pinning
 pub mod Moves
+pub mod Accounting

@@ -7,3 +7,6 @@ pub mod Life
 pub mod Telling
 pub mod Moves
 pub mod Lived
+pub mod Events
+pub mod Slips
+pub mod Accounts
