@@ -1,5 +1,7 @@
 -- Laws of lists of bits and of the numbers that they stand for. Assumes nothing.
 use mathlib.Core.Path.{_≡_, refl, sym, _∙_, ap, ap₂}
+use mathlib.Core.Bool.{false, cond}
+use mathlib.Core.Logic.{_⊎_, inl, inr}
 use mathlib.Core.List.{List, [], _∷_, _++_}
 use Prim.Native.Nat.{ℕ, zero, suc, _+_, _-_, _*_, _/_, _%_, _^_, _<_, _≤_}
 use native.Mathlib.Nat.{le-of-suc-le-suc, mul-assoc, pow-suc, mod-lt, mod-one}
@@ -7,11 +9,12 @@ use native.Mathlib.Numerals.{add-one, one-add}
 use native.Mathlib.Omega.{arith}
 use lib.Bits.{bitOr, or-shifted-r, bitXor, xor-step, xor-zero-r, differ}
 use lib.Count.{ones, ones-cat}
-use lib.Dec.{lit<}
+use lib.Dec.{lit<, eqb}
+use Rattle.std.proofs.shelf.Tests.{eq-eqb, ne-eqb, cases-eq, cond-true, cond-false}
 use lib.ListN.{length, getD, take}
 use lib.Pow.{mod-pow-add, pow-pos}
 use Rattle.std.proofs.shelf.Bits.{shr-shr, shl-whole}
-use Rattle.serial.specs.Words.{bitsOf, valueOf, onesIn, flipped}
+use Rattle.serial.specs.Words.{bitsOf, valueOf, onesIn, flipped, sameBits}
 
 -- every bit is 0 or 1
 pub data Bits : List ℕ → Type 0 where
@@ -155,3 +158,23 @@ value-with n b x within bit =
     ap (bitOr (b % 2 ^ n)) (shl-whole x 1 n 16 bit (omega arith))
     ∙ or-shifted-r x n (b % 2 ^ n) (mod-lt b (pow-pos n))
     ∙ omega (arith, value-push (bitsOf n b) x, value-bits n b, ap (λ k. x * 2 ^ k) (length-bits n b))
+
+-- one bit more: the first bits and the rest are the same, or one of them is not
+same-step : (n a b : ℕ) → sameBits (bitsOf n (a / 2)) (bitsOf n (b / 2)) ≡ eqb (a / 2 % 2 ^ n) (b / 2 % 2 ^ n) → (a % 2 ≡ b % 2) ⊎ (a % 2 ≡ b % 2 → ⊥) → (a / 2 % 2 ^ n ≡ b / 2 % 2 ^ n) ⊎ (a / 2 % 2 ^ n ≡ b / 2 % 2 ^ n → ⊥) → sameBits (bitsOf (suc n) a) (bitsOf (suc n) b) ≡ eqb (a % 2 ^ suc n) (b % 2 ^ suc n)
+unfolding sameBits
+same-step n a b rest (inl e) (inl g) =
+    cond-true (eqb (a % 2) (b % 2)) _ _ (eq-eqb _ _ e) ∙ rest ∙ eq-eqb _ _ g
+    ∙ sym (eq-eqb _ _ (omega (arith, e, g, mod-more n a, mod-more n b)))
+same-step n a b rest (inl e) (inr g) =
+    cond-true (eqb (a % 2) (b % 2)) _ _ (eq-eqb _ _ e) ∙ rest ∙ ne-eqb _ _ g
+    ∙ sym (ne-eqb _ _ (λ h. g (omega (arith, e, h, mod-more n a, mod-more n b))))
+same-step n a b rest (inr e) g =
+    cond-false (eqb (a % 2) (b % 2)) _ _ (ne-eqb _ _ e)
+    ∙ sym (ne-eqb _ _ (λ h. e (omega (arith, h, mod-more n a, mod-more n b))))
+
+-- the n lowest bits of two numbers are the same where their remainders are
+pub same-bits : (n a b : ℕ) → sameBits (bitsOf n a) (bitsOf n b) ≡ eqb (a % 2 ^ n) (b % 2 ^ n)
+unfolding sameBits
+same-bits zero a b = sym (eq-eqb (a % 1) (b % 1) (mod-one a ∙ sym (mod-one b)))
+same-bits (suc n) a b =
+    same-step n a b (same-bits n (a / 2) (b / 2)) (cases-eq (a % 2) (b % 2)) (cases-eq (a / 2 % 2 ^ n) (b / 2 % 2 ^ n))

@@ -114,6 +114,17 @@ codeBits f c = bitsOf (min (totalBits f) 8) c
 abbrev pub syncFill : Form → ℕ → List ℕ
 syncFill f c = codeBits f c ++ cond (eqb (totalBits f) 9) (parityAfter (parityOf f) (codeBits f c)) []
 
+-- two lists of bits are the same
+unfoldable pub sameBits : List ℕ → List ℕ → Bool
+sameBits [] [] = true
+sameBits [] (y ∷ ys) = false
+sameBits (x ∷ xs) [] = false
+sameBits (x ∷ xs) (y ∷ ys) = cond (eqb x y) (sameBits xs ys) false
+
+-- a word matches the sync code: its oldest bits, at most eight, are the code's
+abbrev pub matches : Form → ℕ → List ℕ → Bool
+matches f c w = sameBits (take (min (totalBits f) 8) w) (codeBits f c)
+
 -- the mark fill: ones
 abbrev pub markFill : Form → List ℕ
 markFill f = replicate (totalBits f) 1

@@ -4,7 +4,7 @@ ghost use Prim.Native.Nat.{_+_, _%_, _^_, _<_};
 ghost use mathlib.Core.Bool.{false};
 ghost use mathlib.Core.List.{[], _∷_, _++_};
 ghost use Rattle.serial.specs.Numbers.{Inverse};
-ghost use Rattle.serial.specs.Words.{selectOf, forms, formOf, dataBits, parityOf, totalBits, wordOf, handed, valueOf, onesIn, bitsOf, marks, keptOf, readOf, syncFill, markFill, flipped, readFlipped, One-word, Reads-words, Reads-back, One-flip-marks};
+ghost use Rattle.serial.specs.Words.{selectOf, forms, formOf, dataBits, parityOf, totalBits, wordOf, handed, valueOf, onesIn, bitsOf, marks, keptOf, readOf, sameBits, matches, syncFill, markFill, flipped, readFlipped, One-word, Reads-words, Reads-back, One-flip-marks};
 
 // Six, seven or eight data bits, bare or followed by a parity bit.
 #[derive(Clone, Copy)]
@@ -138,6 +138,13 @@ impl Form {
         (data as u8, self.parity().marks(word, self.total_bits()))
     }
 
+    // Whether a word matches the sync code: its oldest bits, at most eight, are the code's lowest.
+    pub fn matches(self, word: u16, code: u8) -> bool
+        ensures { λ r. ⌜ r ≡ matches self code (bitsOf (totalBits self) word) ⌝ }
+    {
+        same_lowest(word, u16::from(code), self.total_bits().min(8))
+    }
+
     // What goes out for want of a byte, if sync fill is chosen: the sync code.
     pub fn sync_fill(self, code: u8) -> (u16, u8)
         ensures { λ r. ⌜ r ≡ handed (syncFill self code) ⌝ }
@@ -221,6 +228,14 @@ fn lowest(word: u16, count: u8) -> u16
     ensures rest { λ r. ⌜ r ≡ word % 2 ^ count ⌝ }
 {
     word % (1 << count)
+}
+
+// Whether two words have the same `count` lowest bits.
+fn same_lowest(a: u16, b: u16, count: u8) -> bool
+    requires { ⌜ count < 16 ⌝ }
+    ensures { λ r. ⌜ r ≡ sameBits (bitsOf count a) (bitsOf count b) ⌝ }
+{
+    lowest(a, count) == lowest(b, count)
 }
 
 // 1 where the count of ones among the `count` lowest bits is odd, else 0.
