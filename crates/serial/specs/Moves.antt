@@ -44,13 +44,17 @@ tells w who = record { way = cond (eqb (who .first) 0) None (Some w); who = who 
 abbrev pub listOf : Option ℕ → List ℕ
 listOf o = withNumber (λ n. n) o []
 
+-- nobody left
+abbrev pub quiet : Told
+quiet = record { way = None; who = fields [] }
+
 -- what a queue tells at an act
 abbrev pub tellsOf : Queue ℕ → Act → Told
 tellsOf q (enter n) = tells Displaced (fields (listOf (q .one)))
-tellsOf q rise = tells Emptied (fields [])
+tellsOf q rise = quiet
 tellsOf q take = tells Taken (fields (listOf (q .three)))
 tellsOf q empty = tells Emptied (fields (waiting (λ n. n) q))
-tellsOf q nothing = tells Emptied (fields [])
+tellsOf q nothing = quiet
 
 -- the queue after the first k acts
 abbrev pub queueAt : (ℕ → Act) → ℕ → Queue ℕ
@@ -106,9 +110,6 @@ toldBy ms = map (tellsAt ms) (counting 0 (length ms))
 
 abbrev pub queueAfter : List Move → Queue ℕ
 queueAfter ms = queueAt (actsOf (moveAt ms)) (length ms)
-
-abbrev pub quiet : Told
-quiet = record { way = None; who = fields [] }
 
 -- The law: what these moves, on a new queue, come to, told move by move, with these places at the end.
 module _ (ms : List Move) (told : List Told) (end : Queue ℕ) where

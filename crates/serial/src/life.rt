@@ -3,7 +3,7 @@ ghost use mathlib.Core.Path.{_≡_};
 ghost use Prim.Native.Nat.{_+_, _<_};
 ghost use Rattle.serial.specs.declared.life.Stopped.the-variants.{NoMemory};
 ghost use Rattle.serial.specs.Queue.{emptyQueue, fields};
-ghost use Rattle.serial.specs.Moves.{acted, actOf, listOf, tells, tellsOf, entersOne, Every-life, One-life};
+ghost use Rattle.serial.specs.Moves.{acted, actOf, listOf, quiet, tells, tellsOf, entersOne, Every-life, One-life};
 ghost use Rattle.serial.specs.Lived.{Lives};
 use crate::queue::Numbers;
 use crate::queue::PlainNumber;
@@ -110,9 +110,9 @@ fn carry_out(queue: &mut Queue<u32>, step: Move, next: u32) -> Told
         Move::Clear => tell(Way::Emptied, queue.clear()),
         Move::Rise => {
             queue.rise();
-            tell(Way::Emptied, only(None))
+            tell_nobody()
         }
-        Move::Nothing => tell(Way::Emptied, only(None)),
+        Move::Nothing => tell_nobody(),
     }
 }
 
@@ -127,6 +127,16 @@ fn tell(way: Way, who: Numbers) -> Told
             way: Some(way),
             who,
         }
+    }
+}
+
+// Nobody left.
+fn tell_nobody() -> Told
+    ensures { λ r. ⌜ r ≡ quiet ⌝ }
+{
+    Told {
+        way: None,
+        who: only(None),
     }
 }
 

@@ -3,6 +3,7 @@ ghost use mathlib.Core.Path.{_≡_};
 ghost use Rattle.serial.specs.Numbers.{Inverse};
 ghost use Rattle.serial.specs.Slips.{receiveNumber, receiveOf, queueNumber, queueCodeOf, shiftNumber, shiftOf, quietSlip};
 use crate::queue::Numbers;
+use crate::queue::Queue;
 
 // What happened to received characters.
 #[derive(Clone, Copy)]
@@ -51,6 +52,14 @@ pub struct Reply {
     pub sm_dtr: bool,
     pub underflow: bool,
     pub slip: Slip,
+}
+
+// Which numbers wait, place by place, in each direction, and which byte is being shifted.
+#[derive(Clone, Copy)]
+pub struct Standing {
+    pub received: Queue<u32>,
+    pub queued: Queue<u32>,
+    pub shifting: Option<u32>,
 }
 
 impl ReceiveCode {

@@ -1,5 +1,7 @@
 // The adapter: a state in which at most eight bits are counted toward a character.
+ghost use mathlib.Core.Path.{_≡_};
 ghost use Prim.Native.Nat.{_≤_};
+ghost use Rattle.ssda.specs.State.{newState};
 use crate::state::State;
 
 pub(crate) struct Adapter {
@@ -9,7 +11,9 @@ pub(crate) struct Adapter {
 
 impl Adapter {
     // A new adapter.
-    pub(crate) fn new() -> Adapter {
+    pub(crate) fn new() -> Adapter
+        ensures { λ r. ⌜ r .state ≡ newState ⌝ }
+    {
         Adapter {
             state: State::new(),
         }

@@ -1,0 +1,9 @@
+pub mod Computed
+pub mod Calm
+pub mod OnePhase
+pub mod OneState
+pub mod Receiving
+pub mod ReceivedFates
+pub mod Transmitting
+pub mod WrittenFates
+pub mod Pinning

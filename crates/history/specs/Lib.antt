@@ -1,0 +1,4 @@
+pub mod Events
+pub mod Settings
+pub mod Lines
+pub mod Law
