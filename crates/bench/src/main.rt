@@ -1,4 +1,6 @@
 // Runs the bench examples on the adapter's calls, and prints what came and what should come.
+#![tactic(auto)]
+
 mod bench;
 mod further;
 mod play;

@@ -1,4 +1,6 @@
 // Plays the story of one order at the paint counter, and tells the fate of each character.
+#![tactic(auto)]
+
 mod desk;
 mod story;
 mod words;

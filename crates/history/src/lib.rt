@@ -1,4 +1,6 @@
 // Whole histories of one new adapter: a list of events replayed, and the law that its answers obey.
+#![tactic(auto)]
+
 ghost use Rattle.std.specs.Prelude.{◌≡◌, Ok};
 ghost use Rattle.ssda.specs.State.{new_state};
 ghost use Rattle.history.specs.Law.{AllSettled, Pinned};

@@ -1,5 +1,7 @@
 // Sends an order over the line in each of the eight word forms, reads it back, then reads it with one bit
 // of every word flipped, and prints what came of it.
+#![tactic(auto)]
+
 mod tally;
 
 use anyhow::anyhow;

@@ -82,7 +82,7 @@ impl<T: Numbered + Copy> Queue<T> {
     // Empties the queue, and answers the numbers of what was in it, oldest first.
     pub fn clear(&mut self) -> Numbers
         ensures queue { self.new ≡ empty_queue }
-        ensures cleared { result ≡ fields (waiting number self.old) }
+        ensures cleared { result ≡ fields (waiting T.number self.old) }
     {
         self.rise();
         let cleared = Numbers {
@@ -96,7 +96,7 @@ impl<T: Numbered + Copy> Queue<T> {
 
     // The number in each place.
     pub fn numbers(&self) -> Queue<u32>
-        ensures { result ≡ numbers_by number self.now }
+        ensures { result ≡ numbers_by T.number self.now }
     {
         Queue {
             one: number_in(self.one),
@@ -170,7 +170,7 @@ impl<T: Numbered + Copy> Queue<T> {
 
 // The number of what stands in a place, if anything does.
 fn number_in<T: Numbered + Copy>(place: Option<T>) -> Option<u32>
-    ensures { result ≡ option_map number place }
+    ensures { result ≡ option_map T.number place }
 {
     match place {
         Some(thing) => Some(thing.number()),
@@ -180,7 +180,7 @@ fn number_in<T: Numbered + Copy>(place: Option<T>) -> Option<u32>
 
 // The same, with 0 for nothing.
 fn number_of<T: Numbered + Copy>(place: Option<T>) -> u32
-    ensures { result ≡ unwrap_or (option_map number place) 0 }
+    ensures { result ≡ unwrap_or (option_map T.number place) 0 }
 {
     number_in(place).unwrap_or(0)
 }

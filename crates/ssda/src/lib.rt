@@ -1,4 +1,6 @@
 // The EF6852 synchronous serial data adapter. `adapter` has its calls; the other modules are its parts, whose methods are not public.
+#![tactic(auto)]
+
 pub mod adapter;
 pub mod control;
 pub mod front;
