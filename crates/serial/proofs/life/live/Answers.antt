@@ -13,8 +13,8 @@ loop-step-preserved c =
     let q = c.loop-step.queue in
     let here = get_or_default ms k Enter Nothing c.loop-step-test.true in
     let inv = c.loop-step.invariant in (
-      queue_more ms k x e q here inv.1 inv.0 c.carry-out.new.queue c.carry-out.ensures.queue,
-      entered_more ms k x e q here inv.1 inv.0 c.enters-one-entered.result c.enters-one-entered.ensures,
-      told_more ms k x e q here inv.1 inv.0 c.carry-out.result (vec_items c.loop-step.told) (vec_items c.push.new.self) c.carry-out.ensures.told inv.2 c.in-ok-push.ensures.items,
-      omega (arith, one_at_most x, c.enters-one-entered.ensures),
+      queue_more ms k x e q here inv.1 inv.0 c.carry_out.new.queue c.carry_out.ensures.queue,
+      entered_more ms k x e q here inv.1 inv.0 c.enters_one-entered.result c.enters_one-entered.ensures,
+      told_more ms k x e q here inv.1 inv.0 c.carry_out.result (vec_items c.loop-step.told) (vec_items c.push.new.self) c.carry_out.ensures.told inv.2 c.in_ok-push.ensures.items,
+      omega (arith, one_at_most x, c.enters_one-entered.ensures),
     )
