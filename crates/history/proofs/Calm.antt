@@ -1,8 +1,8 @@
 -- An event that writes nothing and sets no pin leaves every setting, and sends nothing to transmit data. Assumes nothing.
-use Rattle.std.proofs.Common.{◌≡◌, ℕ, zero, suc, Bool, true, false, cond, not, ◌&&◌, ◌||◌, Some, None, Option, sym, refl, ap, ◌∙◌}
+use Rattle.std.proofs.Common.{◌≡◌, ℕ, zero, suc, ◌/◌, Bool, true, false, cond, not, ◌&&◌, ◌||◌, Some, None, Option, ◌==◌, sym, refl, ap, ◌∙◌}
 use mathlib.Core.Bool.{beq}
-use Rattle.history.specs.Events.{writes}
-use Rattle.history.specs.Settings.{History, or_else, held_by, bit_of, reset, cts, dcd, ac2, ac1, to_c1, to_c3, to_data, addressed, rx_reset, tx_reset, external, clear_sync, off, held}
+use Rattle.history.specs.Events.{bit_at, writes}
+use Rattle.history.specs.Settings.{History, or_else, held_by, bit_of, reset, cts, dcd, c1, to_c1, to_c3, to_data, addressed, rx_reset, tx_reset, external, clear_sync, off, held}
 use Rattle.history.specs.Lines.{restarts, Writes}
 use Rattle.history.proofs.Apart.{Calm}
 use Rattle.history.proofs.Small.{none_some, cond_same, no_change}
@@ -35,10 +35,10 @@ module _ (E : History) (k : ℕ) (c : Calm (E k)) where
   dcd_same = ap (λ o. or_else o (dcd E k)) (c.unset 2)
 
   clear_same : clear_sync E (suc k) ≡ clear_sync E k
-  clear_same = ap (λ o. or_else (bit_of 3 o) (clear_sync E k)) (c.unwritten 0)
+  clear_same = ap (λ o. bit_at 3 (or_else o (c1 E k))) (c.unwritten 0)
 
-  addressed_none : (two one : Bool) → addressed two one E k ≡ None
-  addressed_none two one = ap (λ o. cond (beq (ac2 E k) two && beq (ac1 E k) one) o None) (c.unwritten 1) ∙ cond_same _ None
+  addressed_none : (a : ℕ) → addressed a E k ≡ None
+  addressed_none a = ap (λ o. cond (c1 E k / 64 == a) o None) (c.unwritten 1) ∙ cond_same _ None
 
   rx_same : rx_reset E (suc k) ≡ rx_reset E k
   rx_same = same_held (reset E) true (λ i. bit_of 0 (to_c1 E i)) k (ap (bit_of 0) (c.unwritten 0)) reset_same
@@ -47,7 +47,7 @@ module _ (E : History) (k : ℕ) (c : Calm (E k)) where
   tx_same = same_held (reset E) true (λ i. bit_of 1 (to_c1 E i)) k (ap (bit_of 1) (c.unwritten 0)) reset_same
 
   external_same : external E (suc k) ≡ external E k
-  external_same = same_held (reset E) false (λ i. bit_of 0 (to_c3 E i)) k (ap (bit_of 0) (addressed_none false true)) reset_same
+  external_same = same_held (reset E) false (λ i. bit_of 0 (to_c3 E i)) k (ap (bit_of 0) (addressed_none 1)) reset_same
 
   -- so the receiver stays on or off, and does not restart, and the transmitter stays held or free
   off_same : off E (suc k) ≡ off E k
@@ -67,12 +67,12 @@ module _ (E : History) (k : ℕ) (c : Calm (E k)) where
 
   -- nothing goes to transmit data
   pub calm_write : (n b : ℕ) → Writes E k n b → ⊥
-  calm_write n b w = none_some b (sym (addressed_none true true) ∙ w.byte)
+  calm_write n b w = none_some b (sym (addressed_none 3) ∙ w.byte)
 
 -- what goes to transmit data is written with RS 1
 module _ (E : History) (k : ℕ) where
   pub data_written : (b : ℕ) → to_data E k ≡ Some b → writes 1 (E k) ≡ Some b
-  data_written b h = go (beq (ac2 E k) true && beq (ac1 E k) true) h
+  data_written b h = go (c1 E k / 64 == 3) h
     where
       go : (t : Bool) → cond t (writes 1 (E k)) None ≡ Some b → writes 1 (E k) ≡ Some b
       go true e = e

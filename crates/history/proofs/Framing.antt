@@ -12,7 +12,7 @@ use Rattle.ssda.specs.Receiver as rcv
 use Rattle.history.specs.Events.{received}
 use Rattle.history.specs.Settings.{History, off, form}
 use Rattle.history.specs.Lines.{limit, T, Phase, searching, one_sync_seen, in_sync, last_bits, Match, Frames, byte_framed, mark_framed, strips}
-use Rattle.history.specs.Answering.{state_at, phase_of}
+use Rattle.history.specs.Answering.{WritesBytes, state_at, phase_of}
 use Rattle.history.proofs.Computed.{takes, phase_at}
 use Rattle.history.proofs.Receiving.{ends_at, ends_of, frame_at, frames_to, frames_from}
 use Rattle.history.proofs.Small.{none_some, some_is, false_true}
@@ -45,7 +45,7 @@ framed_match InSync count m one false e = false_true e
 framed_match InSync count m one true e = refl
 
 -- event k is the received bit b, and there is a number for what it frames
-module _ (E : History) (k b : ℕ) (came : received (E k) ≡ Some b) (room : (state_at E k).front.receiver.framed < limit) where
+module _ (E : History) (bytes : WritesBytes E) (k b : ℕ) (came : received (E k) ≡ Some b) (room : (state_at E k).front.receiver.framed < limit) where
   abbrev f : Front
   f = (state_at E k).front
 
@@ -63,18 +63,18 @@ module _ (E : History) (k b : ℕ) (came : received (E k) ≡ Some b) (room : (s
   -- on: the number by the rules
   number_on : off_of f ≡ false → frame_at E k ≡ cond framed_now (Some (f.receiver.framed + 1)) None
   number_on on =
-      ap (ends_of E k) (sym (heard E k).seen)
+      ap (ends_of E k) (sym (heard E bytes k).seen)
       ∙ ap (λ o. ends_at (seen_of f.receiver).0 f.receiver.framed (takes o (off E k) f.receiver.framed) (T E k)) came
-      ∙ ap (λ o. ends_at (seen_of f.receiver).0 f.receiver.framed (not o && ltb f.receiver.framed limit) (T E k)) (sym (off_now E k) ∙ on)
+      ∙ ap (λ o. ends_at (seen_of f.receiver).0 f.receiver.framed (not o && ltb f.receiver.framed limit) (T E k)) (sym (off_now E bytes k) ∙ on)
       ∙ ap (λ t. ends_at (seen_of f.receiver).0 f.receiver.framed t (T E k)) (lt-ltb _ _ room)
-      ∙ ap (λ F. ends_at (seen_of f.receiver).0 f.receiver.framed true (total_bits F)) (sym (form_now E k))
+      ∙ ap (λ F. ends_at (seen_of f.receiver).0 f.receiver.framed true (total_bits F)) (sym (form_now E bytes k))
       ∙ ends_framed f.receiver.phase f.receiver.count f.receiver.framed (total_bits f.setup.form) (match_of f b) f.setup.one_sync
 
   -- off: none
   number_off : off_of f ≡ true → frame_at E k ≡ None
   number_off is-off =
       ap (λ o. ends_at (phase_at E k).0 (phase_at E k).1 (takes o (off E k) (phase_at E k).1) (T E k)) came
-      ∙ ap (λ o. ends_at (phase_at E k).0 (phase_at E k).1 (not o && ltb (phase_at E k).1 limit) (T E k)) (sym (off_now E k) ∙ is-off)
+      ∙ ap (λ o. ends_at (phase_at E k).0 (phase_at E k).1 (not o && ltb (phase_at E k).1 limit) (T E k)) (sym (off_now E bytes k) ∙ is-off)
       ∙ none (phase_at E k).0
     where
       none : (p : Phase) → ends_at p (phase_at E k).1 false (T E k) ≡ None
@@ -92,13 +92,13 @@ module _ (E : History) (k b : ℕ) (came : received (E k) ≡ Some b) (room : (s
   made_strips : off_of f ≡ false → framed_now ≡ true → strips_of (heard_front f b) ≡ strips E k
   made_strips on now =
       ap (λ o. strips_of (cond o f (with_receiver f (rcv.heard f.receiver b f.setup.form f.code f.setup.one_sync)))) on
-      ∙ ap (λ m. f.control.strip_sync && m) (framed_match f.receiver.phase f.receiver.count (match_of f b) f.setup.one_sync _ now ∙ sym (match_of_lem E k (heard E k) b came room on))
-      ∙ ap (λ v. v.strip && Match E k) (tied E k)
+      ∙ ap (λ m. f.control.strip_sync && m) (framed_match f.receiver.phase f.receiver.count (match_of f b) f.setup.one_sync _ now ∙ sym (match_of_lem E bytes k (heard E bytes k) b came room on))
+      ∙ ap (λ v. v.strip && Match E k) (tied E bytes k)
 
   made_read : off_of f ≡ false → read_of f.setup.form (rcv.last_bits f.receiver b f.setup.form) ≡ read_of (form E k) (last_bits E (suc k) (T E k))
   made_read on =
-      ap (λ F. read_of F (rcv.last_bits f.receiver b f.setup.form)) (form_now E k)
-      ∙ ap (read_of (form E k)) (last_of E k (heard E k) b came room on)
+      ap (λ F. read_of F (rcv.last_bits f.receiver b f.setup.form)) (form_now E bytes k)
+      ∙ ap (read_of (form E k)) (last_of E bytes k (heard E bytes k) b came room on)
 
   made_as : off_of f ≡ false → framed_now ≡ true → FramedAs made
   made_as on now = record {

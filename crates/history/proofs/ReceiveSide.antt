@@ -29,7 +29,7 @@ use Rattle.history.specs.Events.{idles, reads, received}
 use Rattle.history.specs.Settings.{History, ReadsData, ResetsReceiver}
 use Rattle.history.specs.Lines.{limit, Frames, byte_framed, mark_framed, strips}
 use Rattle.history.specs.Law.{receiving, delivered, lost, Met, by_a_data_read, by_the_next, receive_code}
-use Rattle.history.specs.Answering.{state_at}
+use Rattle.history.specs.Answering.{WritesBytes, state_at}
 use Rattle.history.proofs.Apart.{calm_bit, calm_idle, bit_or_read}
 use Rattle.history.proofs.Cases.{Outcome, quietly}
 use Rattle.history.proofs.Contents.{Holds, Each, each_empty, each_entered, each_taken, each_risen, is_enter, is_rise, is_take, is_empty, is_nothing, held_first, held_third, way_told}
@@ -282,7 +282,7 @@ module _ (E : History) (k : ℕ) (s : State) (w : Waits E k s.receive) where
 
 -- A RECEIVED BIT
 
-module _ (E : History) (k : ℕ) (w : Waits E k (state_at E k).receive) (b : ℕ) (low : b ≤ 1) (x : E k ≡ ReceivedBit b) (room : (state_at E k).front.receiver.framed < limit) where
+module _ (E : History) (bytes : WritesBytes E) (k : ℕ) (w : Waits E k (state_at E k).receive) (b : ℕ) (low : b ≤ 1) (x : E k ≡ ReceivedBit b) (room : (state_at E k).front.receiver.framed < limit) where
   abbrev now : State
   now = state_at E k
 
@@ -296,10 +296,10 @@ module _ (E : History) (k : ℕ) (w : Waits E k (state_at E k).receive) (b : ℕ
   -- a bit that frames nothing, and one that frames a character
   unframed_turned : framed_front now.front b ≡ None → Turned E k now after_bit quietly
   unframed_turned e =
-      let q : Still E k = record { no_frame = framed_none E k b came room e; no_idle = ap idles x; no_data = ap (reads 1) x; no_reset = calm_rx E k (calm_bit (E k) b came) } in
+      let q : Still E k = record { no_frame = framed_none E bytes k b came room e; no_idle = ap idles x; no_data = ap (reads 1) x; no_reset = calm_rx E k (calm_bit (E k) b came) } in
       plain E k q now after_bit quietly w refl (kept E k q (bit_or_read 0 (E k) b came) now after_bit refl refl) (refl, refl)
 
-  framed_turned : (c : Character) → FramedAs E k b came room c → (t : Bool) → strips_of (heard_front now.front b) ≡ t → Turned E k now (cond t after_bit (with_character after_bit c)) (Ok (cond t (told_of 0 (tell_receive rx.Stripped c.number)) (loss_told after_bit)))
+  framed_turned : (c : Character) → FramedAs E bytes k b came room c → (t : Bool) → strips_of (heard_front now.front b) ≡ t → Turned E k now (cond t after_bit (with_character after_bit c)) (Ok (cond t (told_of 0 (tell_receive rx.Stripped c.number)) (loss_told after_bit)))
   framed_turned c a true e = strip_turned E k now w c.number a.frames (sym a.strips_same ∙ e) after_bit refl refl
   framed_turned c a false e = enter_turned E k now w c a.frames (sym a.strips_same ∙ e) (record { at = k; frames = a.frames; byte = a.byte; mark = a.mark }) (with_character after_bit c) refl refl
 
@@ -309,4 +309,4 @@ module _ (E : History) (k : ℕ) (w : Waits E k (state_at E k).receive) (b : ℕ
     where
       go : (o : Option Character) → framed_front now.front b ≡ o → Turned E k now (step.taken after_bit o) (Ok (step.tells_of after_bit o))
       go None e = unframed_turned e
-      go (Some c) e = framed_turned c (framed_some E k b came room c e) (strips_of (heard_front now.front b)) refl
+      go (Some c) e = framed_turned c (framed_some E bytes k b came room c e) (strips_of (heard_front now.front b)) refl

@@ -16,7 +16,7 @@ use Rattle.history.specs.Events.{idles, reads, writes, received, level_for}
 use Rattle.history.specs.Settings.{History, or_else, bit_of, reset, by_rx_rs, by_reset, Falls}
 use Rattle.history.specs.Lines.{limit}
 use Rattle.history.specs.Law.{Overrun}
-use Rattle.history.specs.Answering.{state_at}
+use Rattle.history.specs.Answering.{WritesBytes, state_at}
 use Rattle.history.proofs.Apart.{inert}
 use Rattle.history.proofs.Cases.{Outcome, Cases, by_cases, outcome}
 use Rattle.history.proofs.Contents.{each_empty, shift_alone}
@@ -81,7 +81,7 @@ clock_receive s = go (loads_at s.front.timing) refl (underflows_for s.transmit.t
     go true e false f = (simp e, simp (e, f), simp (e, f))
     go false e u f = (simp e, simp e, simp e)
 
-module _ (E : History) (k : ℕ) (w : Waits E k (state_at E k).receive) where
+module _ (E : History) (bytes : WritesBytes E) (k : ℕ) (w : Waits E k (state_at E k).receive) where
   abbrev s : State
   s = state_at E k
 
@@ -112,16 +112,16 @@ module _ (E : History) (k : ℕ) (w : Waits E k (state_at E k).receive) where
     c3 = λ b e x. aside _ x (still_off E k _ x refl refl refl refl refl) refl _ _ refl refl refl (refl, refl);
     code = λ b e x. aside _ x (still_off E k _ x refl refl refl refl refl) refl _ _ refl refl refl (refl, refl);
     byte = λ b e h x. aside _ x (still_off E k _ x refl refl refl refl refl) refl _ _ refl refl refl (overwrites_nothing s.transmit.one);
-    bit = λ b l h x. bit_turned E k w b l x h;
+    bit = λ b l h x. bit_turned E bytes k w b l x h;
     clock = λ x. let c = clock_receive s in aside _ x (still_off E k _ x refl refl refl refl refl) refl _ _ c.0 c.1 c.2 (let a = shift_alone (shifting_in s.front.timing s.shift) (loads_at s.front.timing) in (a.0, a.1));
     reset_falls = λ e x.
-        reset_turned E k s w (by_reset (sym (reset_now E k) ∙ e, ap (λ e. or_else (level_for 0 e) (reset E k)) x)) (λ h. false_true (sym (ap (reads 1) x) ∙ h)) (unframed E k (ap received x)) (fell_under_reset s) (reset_told s) refl refl refl refl refl;
+        reset_turned E k s w (by_reset (sym (reset_now E bytes k) ∙ e, ap (λ e. or_else (level_for 0 e) (reset E k)) x)) (λ h. false_true (sym (ap (reads 1) x) ∙ h)) (unframed E k (ap received x)) (fell_under_reset s) (reset_told s) refl refl refl refl refl;
     reset_rises = λ e x. aside _ x (still_by E k _ x refl refl refl (none_some true) (no_fall_to E k true (ap (level_for 0) x) (λ h. false_true (sym h)))) refl _ _ refl refl refl (refl, refl);
     cts_falls = λ e x. aside _ x (still_off E k _ x refl refl refl refl refl) refl _ _ refl refl refl (refl, refl);
     cts_rises = λ e x. aside _ x (still_off E k _ x refl refl refl refl refl) refl _ _ refl refl refl (refl, refl);
     dcd_falls = λ e x. aside _ x (still_off E k _ x refl refl refl refl refl) refl _ _ refl refl refl (refl, refl);
     dcd_rises = λ e x. aside _ x (still_off E k _ x refl refl refl refl refl) refl _ _ refl refl refl (refl, refl);
-    same_reset = λ l h e x. aside _ x (still_by E k _ x refl refl refl (none_some true) (no_fall_to E k (eqb l 1) (ap (level_for 0) x ∙ simp (le-leb l 1 h)) (λ i. sym (reset_now E k) ∙ sym e ∙ i))) refl _ _ refl refl refl (refl, refl);
+    same_reset = λ l h e x. aside _ x (still_by E k _ x refl refl refl (none_some true) (no_fall_to E k (eqb l 1) (ap (level_for 0) x ∙ simp (le-leb l 1 h)) (λ i. sym (reset_now E bytes k) ∙ sym e ∙ i))) refl _ _ refl refl refl (refl, refl);
     same_cts = λ l h e x. aside _ x (still_off E k _ x refl refl refl refl refl) refl _ _ refl refl refl (refl, refl);
     same_dcd = λ l h e x. aside _ x (still_off E k _ x refl refl refl refl refl) refl _ _ refl refl refl (refl, refl);
     outside = λ e r o x. let i = inert e r o in aside _ x (still_off E k _ x i.no_bit i.mild.no_idle (i.mild.unread 1 (omega arith)) i.mild.no_c1 (i.mild.unset 0 (omega arith))) (i.mild.unread 0 (omega arith)) _ _ refl refl refl tt;
@@ -131,7 +131,7 @@ module _ (E : History) (k : ℕ) (w : Waits E k (state_at E k).receive) where
     where
       full : (b : ℕ) → E k ≡ ReceivedBit b → limit ≤ s.front.receiver.framed → Still E k
       full b x h = record {
-        no_frame = λ n g. omega (arith, h, framed_at E k, g.bit.room, g.next, (numbered E k n g).0);
+        no_frame = λ n g. omega (arith, h, framed_at E bytes k, g.bit.room, g.next, (numbered E k n g).0);
         no_idle = ap idles x;
         no_data = ap (reads 1) x;
         no_reset = calm_rx E k (record { unwritten = λ r. ap (writes r) x; unset = λ q. ap (level_for q) x });
@@ -142,16 +142,16 @@ module _ (E : History) (k : ℕ) (w : Waits E k (state_at E k).receive) where
   turned = by_cases s TurnedBy turned_cases (E k) refl
 
 -- the receive queue holds what the rules say, at every moment
-pub waits : (E : History) (k : ℕ) → Waits E k (state_at E k).receive
-waits E zero = record { numbers = refl; contents = each_empty (Origin E) }
-waits E (suc k) =
-    let t = turned E k (waits E k) in
-    record { numbers = t.numbers ∙ ap (λ q. acted q (receive_act E k)) (waits E k).numbers; contents = t.contents }
+pub waits : (E : History) (bytes : WritesBytes E) (k : ℕ) → Waits E k (state_at E k).receive
+waits E bytes zero = record { numbers = refl; contents = each_empty (Origin E) }
+waits E bytes (suc k) =
+    let t = turned E bytes k (waits E bytes k) in
+    record { numbers = t.numbers ∙ ap (λ q. acted q (receive_act E k)) (waits E bytes k).numbers; contents = t.contents }
 
 -- what is told of received characters is right, at every event
-pub received_right : (E : History) (k : ℕ) → RightIn E k (outcome (state_at E k) (E k))
-received_right E k = (turned E k (waits E k)).right
+pub received_right : (E : History) (bytes : WritesBytes E) (k : ℕ) → RightIn E k (outcome (state_at E k) (E k))
+received_right E bytes k = (turned E bytes k (waits E bytes k)).right
 
 -- the overrun flag shows what the law says
-pub overrun_flag : (E : History) (k : ℕ) → ((state_at E k).flags.overrun ≡ true) ↔ Overrun E k
-overrun_flag E k = overrun_exactly E (λ i. (state_at E i).flags.overrun) (λ i. (state_at E i).flags.overrun_armed) refl refl (λ i. (turned E i (waits E i)).flags) k
+pub overrun_flag : (E : History) (bytes : WritesBytes E) (k : ℕ) → ((state_at E k).flags.overrun ≡ true) ↔ Overrun E k
+overrun_flag E bytes k = overrun_exactly E (λ i. (state_at E i).flags.overrun) (λ i. (state_at E i).flags.overrun_armed) refl refl (λ i. (turned E bytes i (waits E bytes i)).flags) k

@@ -1,6 +1,5 @@
 -- The adapter refuses an event exactly when the rules decline it, and for their reason. Assumes nothing.
-use Rattle.std.proofs.Common.{◌≡◌, ℕ, zero, suc, ◌+◌, ◌<◌, ◌≤◌, Bool, true, false, cond, ◌&&◌, ltb, ◌⊎◌, ◌↔◌, Some, None, Ok, Err, Option, Result, sym, refl, ap, ◌∙◌, subst, inl, inr, arith}
-use mathlib.Core.Bool.{beq}
+use Rattle.std.proofs.Common.{◌≡◌, ℕ, zero, suc, ◌+◌, ◌<◌, ◌≤◌, Bool, true, false, cond, ltb, ◌⊎◌, ◌↔◌, Some, None, Ok, Err, Option, Result, ◌==◌, sym, refl, ap, ◌∙◌, subst, inl, inr, arith}
 use Rattle.std.proofs.lemmas.Bool.{le-leb, ltb-true}
 use Rattle.serial.specs.declared.event.Cycle.TheVariants.{Write}
 use Rattle.serial.specs.declared.event.Event.{Event}
@@ -15,7 +14,7 @@ use Rattle.history.specs.Events.{refusal_by_range, received, writes}
 use Rattle.history.specs.Settings.{History, to_data}
 use Rattle.history.specs.Lines.{limit, Frames, Receiver, one_more, written}
 use Rattle.history.specs.Law.{Declined, out_of_range, framed_full, written_full}
-use Rattle.history.specs.Answering.{state_at, answer_at}
+use Rattle.history.specs.Answering.{WritesBytes, state_at, answer_at}
 use Rattle.history.proofs.Calm.{not_to_data}
 use Rattle.history.proofs.Cases.{Outcome, Cases, by_cases, outcome, outcome_by}
 use Rattle.history.proofs.Computed.{phase_at}
@@ -25,7 +24,7 @@ use Rattle.history.proofs.Receiving.{count, count_step}
 use Rattle.history.proofs.Small.{none_some, ok_err}
 use Rattle.history.proofs.Tied.{tied, written_now}
 use Rattle.history.proofs.TiedReceiver.{framed_at}
-use Rattle.history.proofs.Views.{at, two_of, one_of}
+use Rattle.history.proofs.Views.{at, place_of}
 
 -- no more than all numbers are ever used
 written_most : (E : History) (k : ℕ) → written E k ≤ limit
@@ -45,17 +44,17 @@ framed_most E (suc k) = go (count_step E k) (framed_most E k)
     go (inl e) h = omega (arith, e)
     go (inr e) h = omega (arith, e.1, e.0.next, e.0.bit.room)
 
--- the byte that event k writes to transmit data, by where the adapter's AC2 and AC1 lead
+-- the byte that event k writes to transmit data, by where the adapter's writes with RS 1 go
 abbrev pub data_by : Target → Option ℕ → Option ℕ
-data_by t w = cond (beq (two_of t) true && beq (one_of t) true) w None
+data_by t w = cond (place_of t == 3) w None
 
-module _ (E : History) (k : ℕ) where
+module _ (E : History) (bytes : WritesBytes E) (k : ℕ) where
   abbrev s : State
   s = state_at E k
 
   -- a byte goes to transmit data where the adapter sends it
   to_data_lem : to_data E k ≡ data_by s.front.control.target (writes 1 (E k))
-  to_data_lem = ap (λ v. at v true true (writes 1 (E k))) (sym (tied E k))
+  to_data_lem = ap (λ v. at v 3 (writes 1 (E k))) (sym (tied E bytes k))
 
   pub data_by_lem : (b : ℕ) (t : Target) → s.front.control.target ≡ t → E k ≡ Bus (Write 1 b) → to_data E k ≡ data_by t (Some b)
   data_by_lem b t e x = to_data_lem ∙ ap (λ t. data_by t (writes 1 (E k))) e ∙ ap (λ e. data_by t (writes 1 e)) x
@@ -96,8 +95,8 @@ module _ (E : History) (k : ℕ) where
     c2 = λ b e x. aside b C2 e refl x;
     c3 = λ b e x. aside b C3 e refl x;
     code = λ b e x. aside b SyncCode e refl x;
-    byte = λ b e h x. accepted (ap refusal_by_range x) (λ c came. none_some c (sym (ap received x) ∙ came)) (λ c came. omega (arith, h, written_now E k));
-    bit = λ b l h x. accepted (ap refusal_by_range x ∙ simp (le-leb b 1 l)) (λ c came. omega (arith, h, framed_at E k)) (not_to_data E k (ap (writes 1) x));
+    byte = λ b e h x. accepted (ap refusal_by_range x) (λ c came. none_some c (sym (ap received x) ∙ came)) (λ c came. omega (arith, h, written_now E bytes k));
+    bit = λ b l h x. accepted (ap refusal_by_range x ∙ simp (le-leb b 1 l)) (λ c came. omega (arith, h, framed_at E bytes k)) (not_to_data E k (ap (writes 1) x));
     clock = λ x. calmly _ refl refl refl x;
     reset_falls = λ e x. calmly _ refl refl refl x;
     reset_rises = λ e x. calmly _ refl refl refl x;
@@ -115,10 +114,10 @@ module _ (E : History) (k : ℕ) where
   }
     where
       all_framed : limit ≤ s.front.receiver.framed → count E k ≡ limit
-      all_framed h = omega (arith, h, framed_at E k, framed_most E k)
+      all_framed h = omega (arith, h, framed_at E bytes k, framed_most E k)
 
       all_written : limit ≤ s.front.written → written E k ≡ limit
-      all_written h = omega (arith, h, written_now E k, written_most E k)
+      all_written h = omega (arith, h, written_now E bytes k, written_most E k)
 
   -- the outcome is the one that the rules ask for
   rightly : Agrees (outcome s (E k))

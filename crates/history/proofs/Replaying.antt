@@ -1,8 +1,11 @@
 -- One more event of a replay; the interrupt that a Status read shows; and the rules of both lines hold of the adapter. Assumes nothing.
-use Rattle.std.proofs.Common.{◌≡◌, ℕ, suc, ◌+◌, true, List, [], ◌∷◌, ◌++◌, map, length, Ok, Err, Result, sym, ap, ◌∙◌, subst, ap₂, add-one, arith}
+use Rattle.std.proofs.Common.{◌≡◌, ℕ, suc, ◌+◌, ◌<◌, ◌≤◌, ◌⊎◌, true, List, [], ◌∷◌, ◌++◌, map, length, Ok, Err, Result, sym, ap, ◌∙◌, subst, ap₂, inl, inr, add-one, arith}
+use Rattle.std.proofs.lemmas.Bool.{cases_lt}
+use Rattle.std.proofs.lemmas.List.{get_or_past}
 use Rattle.std.proofs.lemmas.List.FromFn.{map-range_with_len_more}
 use Rattle.std.specs.List.{range_with_len}
 use Rattle.serial.specs.declared.event.Event.{Event}
+use Rattle.serial.specs.declared.event.Event.TheVariants.{ReceivedBit}
 use Rattle.serial.specs.declared.event.Refusal.{Refusal}
 use Rattle.serial.specs.declared.slip.Reply.{Reply}
 use Rattle.serial.specs.declared.slip.Standing.{Standing}
@@ -14,7 +17,7 @@ use Rattle.ssda.specs.Stepped.{stepped, stepped_by, answered, answered_by, stand
 use Rattle.history.specs.Events.{bit_at, reads}
 use Rattle.history.specs.Lines.{Phase, Receiver}
 use Rattle.history.specs.Law.{Answer, history, Lawful}
-use Rattle.history.specs.Answering.{state_at, answer_at, answers_to, standing_after, timing_for, InterruptShown, LinesTied}
+use Rattle.history.specs.Answering.{WritesByte, WritesBytes, state_at, answer_at, answers_to, standing_after, timing_for, InterruptShown, LinesTied}
 use Rattle.history.proofs.OnePhase.{receiver_at}
 use Rattle.history.proofs.OneState.{transmitter_is}
 use Rattle.history.proofs.Small.{ok_err}
@@ -34,15 +37,23 @@ module _ (es : List Event) (k : ℕ) (e : Event) (s : State) (here : e ≡ histo
       ∙ ap₂ (λ xs x. xs ++ x ∷ []) so_far (says ∙ ap₂ answered holds here)
       ∙ sym (map-range_with_len_more (answer_at (history es)) 0 k k (omega arith))
 
+-- where each event passed writes a byte, so does every event of the history: past the end nothing is written
+pub bytes_of : (es : List Event) (k : ℕ) → length es ≡ k → ((i : ℕ) → i < k → WritesByte (history es i)) → WritesBytes (history es)
+bytes_of es k end passed i = go (cases_lt i k)
+  where
+    go : (i < k) ⊎ (k ≤ i) → WritesByte (history es i)
+    go (inl h) = passed i h
+    go (inr h) = subst WritesByte (sym (get_or_past es i (ReceivedBit 2) (omega (arith, h, end)))) tt
+
 -- all events passed
-pub all_answered : (es : List Event) (k : ℕ) (s : State) (xs : List Answer) → length es ≡ k → s ≡ state_at (history es) k → xs ≡ map (answer_at (history es)) (range_with_len 0 k) → (xs ≡ answers_to es) × ((q : Standing) → q ≡ standing_in s → (q ≡ standing_after es) × Lawful es xs q)
-all_answered es k s xs end holds so_far =
+pub all_answered : (es : List Event) (bytes : WritesBytes (history es)) (k : ℕ) (s : State) (xs : List Answer) → length es ≡ k → s ≡ state_at (history es) k → xs ≡ map (answer_at (history es)) (range_with_len 0 k) → (xs ≡ answers_to es) × ((q : Standing) → q ≡ standing_in s → (q ≡ standing_after es) × Lawful es xs q)
+all_answered es bytes k s xs end holds so_far =
     let state : s ≡ state_at (history es) (length es) = holds ∙ ap (state_at (history es)) (sym end) in
     let all : xs ≡ answers_to es = so_far ∙ ap (λ n. map (answer_at (history es)) (range_with_len 0 n)) (sym end) in (
       all,
       λ q h.
           let same : q ≡ standing_after es = h ∙ ap standing_in state in
-          (same, subst (λ (q : Standing). Lawful es xs q) (sym same) (subst (λ (xs : List Answer). Lawful es xs (standing_after es)) (sym all) (every_history_lawful es))),
+          (same, subst (λ (q : Standing). Lawful es xs q) (sym same) (subst (λ (xs : List Answer). Lawful es xs (standing_after es)) (sym all) (every_history_lawful es bytes))),
     )
 
 -- THE INTERRUPT
@@ -67,7 +78,7 @@ interrupt_shown_lem E k r q a h b =
 -- THE LINES
 
 pub lines_tied_lem : LinesTied
-lines_tied_lem E k = record {
-  receiver = subst (λ (x : Phase × ℕ). Receiver E k x.0 x.1) (sym (heard E k).seen) (receiver_at E k);
-  transmitter = λ z t. timed E k ∙ ap (timing_for E) (sym (transmitter_is E k z t));
+lines_tied_lem E bytes k = record {
+  receiver = subst (λ (x : Phase × ℕ). Receiver E k x.0 x.1) (sym (heard E bytes k).seen) (receiver_at E k);
+  transmitter = λ z t. timed E bytes k ∙ ap (timing_for E) (sym (transmitter_is E k z t));
 }

@@ -18,7 +18,7 @@ use Rattle.ssda.specs.Receiver as rcv
 use Rattle.history.specs.Events.{received}
 use Rattle.history.specs.Settings.{History, off, form, sync_code}
 use Rattle.history.specs.Lines.{limit, T, Phase, searching, one_sync_seen, in_sync, first, restarts, last_bits, Match}
-use Rattle.history.specs.Answering.{state_at, phase_of}
+use Rattle.history.specs.Answering.{WritesBytes, state_at, phase_of}
 use Rattle.history.proofs.Apart.{calm_bit, inert}
 use Rattle.history.proofs.Calm.{no_restart}
 use Rattle.history.proofs.Cases.{Outcome, Cases, by_cases}
@@ -243,14 +243,14 @@ pub record Heard (E : History) (k : ℕ) (r : Receiver) : Type 0 where
   pub seen : seen_of r ≡ phase_at E k
   pub window_of : r.framed < limit → r.window ≡ window E k
 
-module _ (E : History) (k : ℕ) (t : Heard E k (state_at E k).front.receiver) where
+module _ (E : History) (bytes : WritesBytes E) (k : ℕ) (t : Heard E k (state_at E k).front.receiver) where
   abbrev s : State
   s = state_at E k
 
   -- while there are numbers left, the chip has the last bits that the rules have
   pub last_of : (b : ℕ) → received (E k) ≡ Some b → s.front.receiver.framed < limit → off_of s.front ≡ false → rcv.last_bits s.front.receiver b s.front.setup.form ≡ last_bits E (suc k) (T E k)
   last_of b came room on =
-      ap (λ F. upper F (s.front.receiver.window / 2 + b * 256)) (form_now E k)
+      ap (λ F. upper F (s.front.receiver.window / 2 + b * 256)) (form_now E bytes k)
       ∙ ap (upper (form E k)) (sym slid_window)
       ∙ window_word E (suc k) (form E k)
     where
@@ -259,18 +259,18 @@ module _ (E : History) (k : ℕ) (t : Heard E k (state_at E k).front.receiver) w
 
       slid_window : window E (suc k) ≡ s.front.receiver.window / 2 + b * 256
       slid_window =
-          window_slides E k b (no_restart E k (calm_bit (E k) b came)) (sym (off_now E k) ∙ on) came
+          window_slides E k b (no_restart E k (calm_bit (E k) b came)) (sym (off_now E bytes k) ∙ on) came
           ∙ ap (λ x. x / 2 + b * 256) (sym (t.window_of room))
 
   -- and finds the match that they find
   pub match_of_lem : (b : ℕ) → received (E k) ≡ Some b → s.front.receiver.framed < limit → off_of s.front ≡ false → Match E k ≡ match_of s.front b
   match_of_lem b came room on =
-      sym (ap (λ F. matches F s.front.code (rcv.last_bits s.front.receiver b s.front.setup.form)) (form_now E k)
-      ∙ ap (λ C. matches (form E k) C (rcv.last_bits s.front.receiver b s.front.setup.form)) (ap (λ v. v.code) (tied E k))
+      sym (ap (λ F. matches F s.front.code (rcv.last_bits s.front.receiver b s.front.setup.form)) (form_now E bytes k)
+      ∙ ap (λ C. matches (form E k) C (rcv.last_bits s.front.receiver b s.front.setup.form)) (ap (λ v. v.code) (tied E bytes k))
       ∙ ap (matches (form E k) (sync_code E k)) (last_of b came room on))
 
 -- one event further
-module _ (E : History) (k : ℕ) (t : Heard E k (state_at E k).front.receiver) where
+module _ (E : History) (bytes : WritesBytes E) (k : ℕ) (t : Heard E k (state_at E k).front.receiver) where
   abbrev before : State
   before = state_at E k
 
@@ -279,9 +279,9 @@ module _ (E : History) (k : ℕ) (t : Heard E k (state_at E k).front.receiver) w
 
   seen_more : seen_of after.front.receiver ≡ phase_at E (suc k)
   seen_more =
-      by_cases before (Seen before) (seen_cases before) (E k) (Match E k) (match_of_lem E k t)
-      ∙ ap (λ v. next_seen v (view_of after.front) (received (E k)) (Match E k) (seen_of before.front.receiver)) (tied E k)
-      ∙ ap (λ w. next_seen (view_at E k) w (received (E k)) (Match E k) (seen_of before.front.receiver)) (tied E (suc k))
+      by_cases before (Seen before) (seen_cases before) (E k) (Match E k) (match_of_lem E bytes k t)
+      ∙ ap (λ v. next_seen v (view_of after.front) (received (E k)) (Match E k) (seen_of before.front.receiver)) (tied E bytes k)
+      ∙ ap (λ w. next_seen (view_at E k) w (received (E k)) (Match E k) (seen_of before.front.receiver)) (tied E bytes (suc k))
       ∙ ap (next_phase E k) t.seen
 
   -- where there are numbers left after it there were before
@@ -295,16 +295,16 @@ module _ (E : History) (k : ℕ) (t : Heard E k (state_at E k).front.receiver) w
   window_more : after.front.receiver.framed < limit → after.front.receiver.window ≡ window E (suc k)
   window_more h =
       by_cases before (Slid before) (slid_cases before) (E k) h
-      ∙ ap (λ v. next_window v (view_of after.front) (received (E k)) before.front.receiver.window) (tied E k)
-      ∙ ap (λ w. next_window (view_at E k) w (received (E k)) before.front.receiver.window) (tied E (suc k))
+      ∙ ap (λ v. next_window v (view_of after.front) (received (E k)) before.front.receiver.window) (tied E bytes k)
+      ∙ ap (λ w. next_window (view_at E k) w (received (E k)) before.front.receiver.window) (tied E bytes (suc k))
       ∙ ap (next_window (view_at E k) (view_at E (suc k)) (received (E k))) (t.window_of (room_before h))
       ∙ sym (window_next E k)
 
 -- the receiver of the adapter is as the rules of framing say, at every moment
-pub heard : (E : History) (k : ℕ) → Heard E k (state_at E k).front.receiver
-heard E zero = record { seen = refl; window_of = λ h. sym (window_first E) }
-heard E (suc k) = record { seen = seen_more E k (heard E k); window_of = window_more E k (heard E k) }
+pub heard : (E : History) (bytes : WritesBytes E) (k : ℕ) → Heard E k (state_at E k).front.receiver
+heard E bytes zero = record { seen = refl; window_of = λ h. sym (window_first E) }
+heard E bytes (suc k) = record { seen = seen_more E bytes k (heard E bytes k); window_of = window_more E bytes k (heard E bytes k) }
 
 -- how many characters are framed
-pub framed_at : (E : History) (k : ℕ) → (state_at E k).front.receiver.framed ≡ count E k
-framed_at E k = ap (λ x. x.1) (heard E k).seen
+pub framed_at : (E : History) (bytes : WritesBytes E) (k : ℕ) → (state_at E k).front.receiver.framed ≡ count E k
+framed_at E bytes k = ap (λ x. x.1) (heard E bytes k).seen

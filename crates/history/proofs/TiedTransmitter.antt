@@ -12,7 +12,7 @@ use Rattle.ssda.specs.Transmitter.{ticked}
 use Rattle.history.specs.Events.{clocks}
 use Rattle.history.specs.Settings.{History, held}
 use Rattle.history.specs.Lines.{T, Sending, still, starting, showing}
-use Rattle.history.specs.Answering.{state_at, timing_for}
+use Rattle.history.specs.Answering.{WritesBytes, state_at, timing_for}
 use Rattle.history.proofs.Apart.{inert}
 use Rattle.history.proofs.Cases.{Outcome, Cases, by_cases}
 use Rattle.history.proofs.Computed.{clocked, next_sending, sending_at}
@@ -126,14 +126,14 @@ module _ (s : State) (holds : held_of s.front ≡ true → s.front.timing ≡ He
 -- THE TIE
 
 -- the transmitter of the adapter is as the rules of sending say, at every moment
-pub timed : (E : History) (k : ℕ) → (state_at E k).front.timing ≡ timing_for E (sending_at E k)
-timed E zero = refl
-timed E (suc k) =
+pub timed : (E : History) (bytes : WritesBytes E) (k : ℕ) → (state_at E k).front.timing ≡ timing_for E (sending_at E k)
+timed E bytes zero = refl
+timed E bytes (suc k) =
     let before = state_at E k in
     let after = state_at E (suc k) in
-    let held-now = λ (h : held_of before.front ≡ true). timed E k ∙ held_still E k (sending_at E k) (good_at E k) (sym (ap held_in (tied E k)) ∙ h) in
+    let held-now = λ (h : held_of before.front ≡ true). timed E bytes k ∙ held_still E k (sending_at E k) (good_at E k) (sym (ap held_in (tied E bytes k)) ∙ h) in
     by_cases before (Timed before held-now) (timed_cases before held-now) (E k)
-    ∙ ap (λ v. next_timing v (view_of after.front) (clocks (E k)) before.front.timing) (tied E k)
-    ∙ ap (λ w. next_timing (view_at E k) w (clocks (E k)) before.front.timing) (tied E (suc k))
-    ∙ ap (next_timing (view_at E k) (view_at E (suc k)) (clocks (E k))) (timed E k)
+    ∙ ap (λ v. next_timing v (view_of after.front) (clocks (E k)) before.front.timing) (tied E bytes k)
+    ∙ ap (λ w. next_timing (view_at E k) w (clocks (E k)) before.front.timing) (tied E bytes (suc k))
+    ∙ ap (next_timing (view_at E k) (view_at E (suc k)) (clocks (E k))) (timed E bytes k)
     ∙ sym (sending_next E k (sending_at E k) (good_at E k))

@@ -31,7 +31,7 @@ use Rattle.history.specs.Events.{idles, clocks, writes}
 use Rattle.history.specs.Settings.{History, to_data, form, held, Cuts, by_tx_reset, ResetsTransmitter}
 use Rattle.history.specs.Lines.{T, written, Writes, Sending, still, starting, showing, Transmitter, Loads, first_word, next_word, holds, loaded, shown}
 use Rattle.history.specs.Law.{transmitting, Drops, Does, queue_code, shift_code, Shifts, only}
-use Rattle.history.specs.Answering.{state_at, timing_for}
+use Rattle.history.specs.Answering.{WritesBytes, state_at, timing_for}
 use Rattle.history.proofs.Apart.{calm_clock}
 use Rattle.history.proofs.Calm.{calm_write, held_same}
 use Rattle.history.proofs.Cases.{Outcome, quietly}
@@ -332,7 +332,7 @@ module _ (E : History) (k : ℕ) (s : State) (w : Sends E k s) (timing : s.front
 
 -- A TRANSMIT CLOCK
 
-module _ (E : History) (k : ℕ) (w : Sends E k (state_at E k)) (x : E k ≡ TransmitClock) where
+module _ (E : History) (bytes : WritesBytes E) (k : ℕ) (w : Sends E k (state_at E k)) (x : E k ≡ TransmitClock) where
   abbrev s : State
   s = state_at E k
 
@@ -347,7 +347,7 @@ module _ (E : History) (k : ℕ) (w : Sends E k (state_at E k)) (x : E k ≡ Tra
 
   -- the word being shown at a moment says how many bits are left
   left : (l j : ℕ) → Transmitter E k (showing l j) → timing ≡ Showing (T E l - j)
-  left l j t = timed E k ∙ ap (timing_for E) (sym (transmitter_is E k _ t))
+  left l j t = timed E bytes k ∙ ap (timing_for E) (sym (transmitter_is E k _ t))
 
   -- what is told of the byte that is being shifted
   last_or_not : (l j : ℕ) → Transmitter E k (showing l j) → (b : Bool) → loads_at timing ≡ b → (n : ℕ) → Shifts E k n l j → Tells shift_code sh.Nothing (Does E k) (cond b sh.LastBit sh.Bit) (only n)
@@ -383,14 +383,14 @@ module _ (E : History) (k : ℕ) (w : Sends E k (state_at E k)) (x : E k ≡ Tra
   clock_right : Tells queue_code qu.Nothing (Drops E k) qu.Nothing (fields []) → WrittenRight E k (clock_told s)
   clock_right d = record {
     dropped = let a = shift_alone m (loads_at timing) in rw (a.2, a.3) d;
-    shifted = shift_told m (shifting_now_lem E k s w (timed E k)) (loads_at timing) refl;
+    shifted = shift_told m (shifting_now_lem E k s w (timed E bytes k)) (loads_at timing) refl;
     bit = shows_bit;
   }
 
   -- a clock that loads
   loaded_word : (o : Option Byte) → s.transmit.three ≡ o → Loaded E k 0 (word_for o s.front.setup.form s.front.code s.front.setup.tx_sync)
   loaded_word None e = a_fill (sym (ap (λ q. q.three) w.numbers) ∙ ap (option_map byte_number) e) refl
-  loaded_word (Some b) e = a_byte b (sym (ap (λ q. q.three) w.numbers) ∙ ap (option_map byte_number) e) (subst (Holds (Entry E)) e w.contents.third) refl (ap (λ F. value_of (word_of F b.byte)) (form_now E k))
+  loaded_word (Some b) e = a_byte b (sym (ap (λ q. q.three) w.numbers) ∙ ap (option_map byte_number) e) (subst (Holds (Entry E)) e w.contents.third) refl (ap (λ F. value_of (word_of F b.byte)) (form_now E bytes k))
 
   load_passed : Loads E k → loads_at timing ≡ true → Passed E k s (step.clocked s) (Ok (clock_told s))
   load_passed h e =
@@ -429,12 +429,12 @@ module _ (E : History) (k : ℕ) (w : Sends E k (state_at E k)) (x : E k ≡ Tra
   clock_by : (z : Sending) → sending_at E k ≡ z → Good E k z → ShownIn E z s.shift → Passed E k s (step.clocked s) (Ok (clock_told s))
   clock_by still e g y =
       let a : Transmitter E (suc k) still = holds (held_same E k (calm_clock (E k) clock) ∙ g) refl in
-      advance_passed no_loads (ap loads_at (timed E k ∙ ap (timing_for E) e)) (subst (λ (z : Sending). ShownIn E z (shifted_on s.shift)) (transmitter_is E (suc k) still a) tt)
+      advance_passed no_loads (ap loads_at (timed E bytes k ∙ ap (timing_for E) e)) (subst (λ (z : Sending). ShownIn E z (shifted_on s.shift)) (transmitter_is E (suc k) still a) tt)
     where
       no_loads : Loads E k → ⊥
       no_loads (first_word c h) = let u : starting ≡ still = transmitter_is E k _ h ∙ e in let y : ◌≡◌ {A = ℕ} 0 1 = cc in omega arith
       no_loads (next_word l j c h i) = no_word E k l j still (λ z. z) (now_at E k still e) h
-  clock_by starting e g y = load_passed (first_word clock (now_at E k starting e)) (ap loads_at (timed E k ∙ ap (timing_for E) e))
+  clock_by starting e g y = load_passed (first_word clock (now_at E k starting e)) (ap loads_at (timed E bytes k ∙ ap (timing_for E) e))
   clock_by (showing l j) e g y = go (ltb (j + 1) (T E l)) refl
     where
       here : Transmitter E k (showing l j)

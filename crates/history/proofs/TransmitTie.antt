@@ -19,7 +19,7 @@ use Rattle.ssda.specs.Transmitter.{shifting_in}
 use Rattle.history.specs.Events.{idles, writes, clocks, level_for}
 use Rattle.history.specs.Settings.{History, or_else, bit_of, reset, cts, ResetsTransmitter, by_tx_rs, by_reset, by_cts, Falls, Rises}
 use Rattle.history.specs.Lines.{limit, Writes}
-use Rattle.history.specs.Answering.{state_at}
+use Rattle.history.specs.Answering.{WritesBytes, state_at}
 use Rattle.history.proofs.Apart.{inert}
 use Rattle.history.proofs.Calm.{not_to_data}
 use Rattle.history.proofs.Cases.{Outcome, Cases, by_cases, outcome}
@@ -104,23 +104,23 @@ module _ (E : History) (k : ℕ) where
   calmly_none : (e : Event) → E k ≡ e → writes 1 e ≡ None → idles e ≡ false → clocks e ≡ false → writes 0 e ≡ None → level_for 0 e ≡ None → level_for 1 e ≡ None → Calmly E k
   calmly_none e x w = calmly_off e x (unwritten e x w)
 
-module _ (E : History) (k : ℕ) (w : Sends E k (state_at E k)) where
+module _ (E : History) (bytes : WritesBytes E) (k : ℕ) (w : Sends E k (state_at E k)) where
   abbrev s : State
   s = state_at E k
 
-  aside : Calmly E k → (t : State) (o : Outcome) → t.transmit ≡ s.transmit → t.shift ≡ s.shift → QuietIn E k s w (timed E k) o → Passed E k s t o
-  aside = plain_passed E k s w (timed E k)
+  aside : Calmly E k → (t : State) (o : Outcome) → t.transmit ≡ s.transmit → t.shift ≡ s.shift → QuietIn E k s w (timed E bytes k) o → Passed E k s t o
+  aside = plain_passed E k s w (timed E bytes k)
 
   -- a write with RS 1 to another register
   elsewhere : (b : ℕ) (t : Target) → s.front.control.target ≡ t → data_by t (Some b) ≡ None → E k ≡ Bus (Write 1 b) → Calmly E k
   elsewhere b t e h x =
-      calmly_off E k _ x (λ n c y. none_some c (sym (data_by_lem E k b t e x ∙ h) ∙ y.byte)) refl refl refl refl refl
+      calmly_off E k _ x (λ n c y. none_some c (sym (data_by_lem E bytes k b t e x ∙ h) ∙ y.byte)) refl refl refl refl refl
 
   -- a write to C1
   c1_passed : (b : ℕ) → E k ≡ Bus (Write 0 b) → (z : Bool) → reg.bit_of 1 b ≡ z → Passed E k s (c1_was_written s b) (Ok (c1_told s b))
   c1_passed b x true e =
       let t = reset_tells (reg.bit_of 0 b) (reg.bit_of 1 b) s e in
-      reset_passed E k s w (timed E k) (by_tx_rs (ap (λ e. bit_of 1 (writes 0 e)) x ∙ ap Some e)) (ap clocks x) (c1_was_written s b) (c1_told s b) (reset_leaves (reg.bit_of 0 b) (reg.bit_of 1 b) s e) t.0 t.1 t.2 t.3
+      reset_passed E k s w (timed E bytes k) (by_tx_rs (ap (λ e. bit_of 1 (writes 0 e)) x ∙ ap Some e)) (ap clocks x) (c1_was_written s b) (c1_told s b) (reset_leaves (reg.bit_of 0 b) (reg.bit_of 1 b) s e) t.0 t.1 t.2 t.3
   c1_passed b x false e =
       let l = kept_leaves (reg.bit_of 0 b) (reg.bit_of 1 b) s e in
       aside (calmly_by E k _ x (unwritten E k _ x refl) refl refl (λ h. false_true (sym e ∙ some_is h)) (no_fall E k (ap (level_for 0) x)) (no_rise E k (ap (level_for 1) x))) (c1_was_written s b) (Ok (c1_told s b)) l.0 l.1 (kept_tells (reg.bit_of 0 b) (reg.bit_of 1 b) s e)
@@ -128,9 +128,9 @@ module _ (E : History) (k : ℕ) (w : Sends E k (state_at E k)) where
   -- a byte written to transmit data
   entry : (b : ℕ) → s.front.control.target ≡ TransmitData → s.front.written < limit → E k ≡ Bus (Write 1 b) → Writes E k (s.front.written + 1) b
   entry b e h x = record {
-    byte = data_by_lem E k b TransmitData e x;
-    room = let a = written_now E k in omega (arith, h, a);
-    next = ap (λ n. n + 1) (written_now E k);
+    byte = data_by_lem E bytes k b TransmitData e x;
+    room = let a = written_now E bytes k in omega (arith, h, a);
+    next = ap (λ n. n + 1) (written_now E bytes k);
   }
 
   abbrev PassedBy : Event → State → Outcome → Type 0
@@ -141,7 +141,7 @@ module _ (E : History) (k : ℕ) (w : Sends E k (state_at E k)) where
   passed_cases = record {
     idle = λ x.
         let r = unreset E k _ x (none_some true) (no_fall E k (ap (level_for 0) x)) in
-        idle_passed E k s w (timed E k) (ap idles x) (ap clocks x) (unwritten E k _ x refl) r (no_cut E k r (no_rise E k (ap (level_for 1) x))) _ refl refl;
+        idle_passed E k s w (timed E bytes k) (ap idles x) (ap clocks x) (unwritten E k _ x refl) r (no_cut E k r (no_rise E k (ap (level_for 1) x))) _ refl refl;
     status = λ x. aside (calmly_none E k _ x refl refl refl refl refl refl) _ _ refl refl (refl, refl, refl, refl);
     data_read = λ x. aside (calmly_none E k _ x refl refl refl refl refl refl) _ _ refl refl (delivery_quiet s.receive.three);
     c1 = λ b x. c1_passed b x _ refl;
@@ -149,30 +149,30 @@ module _ (E : History) (k : ℕ) (w : Sends E k (state_at E k)) where
     c3 = λ b e x. aside (elsewhere b C3 e refl x) _ _ refl refl (refl, refl, refl, refl);
     code = λ b e x. aside (elsewhere b SyncCode e refl x) _ _ refl refl (refl, refl, refl, refl);
     byte = λ b e h x.
-        write_passed E k s w (timed E k) (record { number = s.front.written + 1; byte = b }) (entry b e h x) (ap clocks x)
+        write_passed E k s w (timed E bytes k) (record { number = s.front.written + 1; byte = b }) (entry b e h x) (ap clocks x)
         (no_cut E k (unreset E k _ x (none_some true) (no_fall E k (ap (level_for 0) x))) (no_rise E k (ap (level_for 1) x))) _ refl refl;
     bit = λ b l h x.
         let t = with_front s (heard_front s.front b) in
         let o = framed_front s.front b in
         let a = bit_transmit t o (strips_of t.front) refl in
         aside (calmly_none E k _ x refl refl refl refl refl refl) (took_in s b) (Ok (bit_told s b)) a.0 a.1 (bit_quiet t o (strips_of t.front) refl);
-    clock = λ x. clock_passed E k w x;
+    clock = λ x. clock_passed E bytes k w x;
     reset_falls = λ e x.
-        reset_passed E k s w (timed E k) (by_reset (sym (reset_now E k) ∙ e, ap (λ e. or_else (level_for 0 e) (reset E k)) x)) (ap clocks x) _ _ refl refl refl refl refl;
+        reset_passed E k s w (timed E bytes k) (by_reset (sym (reset_now E bytes k) ∙ e, ap (λ e. or_else (level_for 0 e) (reset E k)) x)) (ap clocks x) _ _ refl refl refl refl refl;
     reset_rises = λ e x. aside (calmly_by E k _ x (unwritten E k _ x refl) refl refl (none_some true) (no_fall_to E k true (ap (level_for 0) x) (λ h. false_true (sym h))) (no_rise E k (ap (level_for 1) x))) _ _ refl refl (refl, refl, refl, refl);
     cts_falls = λ e x. aside (calmly_by E k _ x (unwritten E k _ x refl) refl refl (none_some true) (no_fall E k (ap (level_for 0) x)) (no_rise_to E k false (ap (level_for 1) x) (λ h. false_true h))) _ _ refl refl (refl, refl, refl, refl);
     cts_rises = λ e x.
-        cut_passed E k s w (timed E k) (by_cts (sym (cts_now E k) ∙ e, ap (λ e. or_else (level_for 1 e) (cts E k)) x)) (unreset E k _ x (none_some true) (no_fall E k (ap (level_for 0) x))) (ap idles x) (ap clocks x) (unwritten E k _ x refl) _ _ refl (refl, refl) refl refl;
+        cut_passed E k s w (timed E bytes k) (by_cts (sym (cts_now E bytes k) ∙ e, ap (λ e. or_else (level_for 1 e) (cts E k)) x)) (unreset E k _ x (none_some true) (no_fall E k (ap (level_for 0) x))) (ap idles x) (ap clocks x) (unwritten E k _ x refl) _ _ refl (refl, refl) refl refl;
     dcd_falls = λ e x. aside (calmly_none E k _ x refl refl refl refl refl refl) _ _ refl refl (refl, refl, refl, refl);
     dcd_rises = λ e x. aside (calmly_none E k _ x refl refl refl refl refl refl) _ _ refl refl (refl, refl, refl, refl);
-    same_reset = λ l h e x. aside (calmly_by E k _ x (unwritten E k _ x refl) refl refl (none_some true) (no_fall_to E k (eqb l 1) (ap (level_for 0) x ∙ simp (le-leb l 1 h)) (λ i. sym (reset_now E k) ∙ sym e ∙ i)) (no_rise E k (ap (level_for 1) x))) _ _ refl refl (refl, refl, refl, refl);
-    same_cts = λ l h e x. aside (calmly_by E k _ x (unwritten E k _ x refl) refl refl (none_some true) (no_fall E k (ap (level_for 0) x)) (no_rise_to E k (eqb l 1) (ap (level_for 1) x ∙ simp (le-leb l 1 h)) (λ i. sym (cts_now E k) ∙ sym e ∙ i))) _ _ refl refl (refl, refl, refl, refl);
+    same_reset = λ l h e x. aside (calmly_by E k _ x (unwritten E k _ x refl) refl refl (none_some true) (no_fall_to E k (eqb l 1) (ap (level_for 0) x ∙ simp (le-leb l 1 h)) (λ i. sym (reset_now E bytes k) ∙ sym e ∙ i)) (no_rise E k (ap (level_for 1) x))) _ _ refl refl (refl, refl, refl, refl);
+    same_cts = λ l h e x. aside (calmly_by E k _ x (unwritten E k _ x refl) refl refl (none_some true) (no_fall E k (ap (level_for 0) x)) (no_rise_to E k (eqb l 1) (ap (level_for 1) x ∙ simp (le-leb l 1 h)) (λ i. sym (cts_now E bytes k) ∙ sym e ∙ i))) _ _ refl refl (refl, refl, refl, refl);
     same_dcd = λ l h e x. aside (calmly_none E k _ x refl refl refl refl refl refl) _ _ refl refl (refl, refl, refl, refl);
     outside = λ e r o x.
         let i = inert e r o in
         aside (calmly_none E k _ x i.no_write i.mild.no_idle i.mild.no_clock i.mild.no_c1 (i.mild.unset 0 (omega arith)) (i.mild.unset 1 (omega arith))) _ _ refl refl tt;
     framed_full = λ b l h x. aside (calmly_none E k _ x refl refl refl refl refl refl) _ _ refl refl tt;
-    written_full = λ b e h x. aside (calmly_off E k _ x (λ n c y. let a = written_now E k in let r = y.room in omega (arith, h, a, r)) refl refl refl refl refl) _ _ refl refl tt;
+    written_full = λ b e h x. aside (calmly_off E k _ x (λ n c y. let a = written_now E bytes k in let r = y.room in omega (arith, h, a, r)) refl refl refl refl refl) _ _ refl refl tt;
   }
 
   -- every event
@@ -180,12 +180,12 @@ module _ (E : History) (k : ℕ) (w : Sends E k (state_at E k)) where
   passed = by_cases s PassedBy passed_cases (E k) refl
 
 -- the transmit queue and the word being shown are as the rules say, at every moment
-pub sends : (E : History) (k : ℕ) → Sends E k (state_at E k)
-sends E zero = record { numbers = refl; contents = each_empty (Entry E); word = tt }
-sends E (suc k) =
-    let p = passed E k (sends E k) in
-    record { numbers = p.numbers ∙ ap (λ q. acted q (transmit_act E k)) (sends E k).numbers; contents = p.contents; word = p.word }
+pub sends : (E : History) (bytes : WritesBytes E) (k : ℕ) → Sends E k (state_at E k)
+sends E bytes zero = record { numbers = refl; contents = each_empty (Entry E); word = tt }
+sends E bytes (suc k) =
+    let p = passed E bytes k (sends E bytes k) in
+    record { numbers = p.numbers ∙ ap (λ q. acted q (transmit_act E k)) (sends E bytes k).numbers; contents = p.contents; word = p.word }
 
 -- what is told of written bytes is right, at every event
-pub written_right : (E : History) (k : ℕ) → RightIn E k (outcome (state_at E k) (E k))
-written_right E k = (passed E k (sends E k)).right
+pub written_right : (E : History) (bytes : WritesBytes E) (k : ℕ) → RightIn E k (outcome (state_at E k) (E k))
+written_right E bytes k = (passed E bytes k (sends E bytes k)).right

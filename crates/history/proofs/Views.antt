@@ -1,15 +1,18 @@
 -- The settings of the adapter's front are those of the history, at every moment. Assumes nothing.
-use Rattle.std.proofs.Common.{◌≡◌, ℕ, Bool, true, false, cond, not, ◌&&◌, ◌||◌, ltb, Some, None, Option, sym, refl}
-use mathlib.Core.Bool.{beq}
+use Rattle.std.proofs.Common.{◌≡◌, ℕ, zero, suc, ◌/◌, ◌%◌, ◌<◌, Bool, true, false, cond, not, ◌&&◌, ◌||◌, ltb, Some, None, Option, ◌==◌, sym, refl, ap, ◌∙◌, arith}
+use Rattle.std.proofs.lemmas.Bool.{eqb-true, eqb-false}
+use Rattle.std.specs.Option.{unwrap_or}
 use Rattle.serial.specs.declared.event.Event.{Event}
 use Rattle.serial.specs.declared.word.Form.{Form}
+use Rattle.serial.specs.declared.word.Form.TheVariants.{SixEven}
+use Rattle.serial.specs.Words.{form_of}
 use Rattle.ssda.specs.declared.control.Target.{Target}
 use Rattle.ssda.specs.declared.control.Target.TheVariants.{C2, C3, SyncCode, TransmitData}
 use Rattle.ssda.specs.declared.front.Front.{Front}
 use Rattle.ssda.specs.Control as reg
 use Rattle.ssda.specs.Front.{wrote_c1, wrote_c2, wrote_c3, wrote_code, counted_write, with_cts, with_dcd, reset_fell, reset_rose}
-use Rattle.history.specs.Events.{writes, level_for}
-use Rattle.history.specs.Settings.{History, or_else, bit_of, formIn, to_c1, to_c3, reset, cts, dcd, ac2, ac1, rx_reset, tx_reset, external, clear_sync, strip_sync, one_sync, form, sync_code}
+use Rattle.history.specs.Events.{bit_at, writes, level_for}
+use Rattle.history.specs.Settings.{History, or_else, latest, bit_of, to_c1, to_c2, to_c3, c1, reset, cts, dcd, rx_reset, tx_reset, external, clear_sync, strip_sync, one_sync, form, sync_code}
 use Rattle.history.specs.Lines.{one_more, written}
 use Rattle.history.proofs.Calm.{low}
 use Rattle.history.proofs.Small.{cond_same}
@@ -19,8 +22,7 @@ pub record View : Type 0 where
   pub reset : Bool
   pub cts : Bool
   pub dcd : Bool
-  pub two : Bool
-  pub one : Bool
+  pub goes : ℕ
   pub clear : Bool
   pub strip : Bool
   pub rx : Bool
@@ -31,18 +33,12 @@ pub record View : Type 0 where
   pub code : ℕ
   pub written : ℕ
 
--- AC2 and AC1 by where they lead
-abbrev pub two_of : Target → Bool
-two_of C2 = false
-two_of C3 = false
-two_of SyncCode = true
-two_of TransmitData = true
-
-abbrev pub one_of : Target → Bool
-one_of C2 = false
-one_of C3 = true
-one_of SyncCode = false
-one_of TransmitData = true
+-- where a write with RS 1 goes, as the number that AC2 AC1 are
+abbrev pub place_of : Target → ℕ
+place_of C2 = 0
+place_of C3 = 1
+place_of SyncCode = 2
+place_of TransmitData = 3
 
 -- the settings of a front
 abbrev pub view_of : Front → View
@@ -50,8 +46,7 @@ view_of f = record {
   reset = f.pins.reset;
   cts = f.pins.cts;
   dcd = f.pins.dcd;
-  two = two_of f.control.target;
-  one = one_of f.control.target;
+  goes = place_of f.control.target;
   clear = f.control.clear_sync;
   strip = f.control.strip_sync;
   rx = f.control.rx_reset;
@@ -69,8 +64,7 @@ view_at E k = record {
   reset = reset E k;
   cts = cts E k;
   dcd = dcd E k;
-  two = ac2 E k;
-  one = ac1 E k;
+  goes = c1 E k / 64;
   clear = clear_sync E k;
   strip = strip_sync E k;
   rx = rx_reset E k;
@@ -82,9 +76,18 @@ view_at E k = record {
   written = written E k;
 }
 
--- the byte written with RS 1, where it goes to the register of this AC2 and AC1
-abbrev pub at : View → Bool → Bool → Option ℕ → Option ℕ
-at v x y w = cond (beq v.two x && beq v.one y) w None
+-- the byte written with RS 1, where it goes to the register of this number
+abbrev pub at : View → ℕ → Option ℕ → Option ℕ
+at v a w = cond (v.goes == a) w None
+
+-- where a byte written to C1 leads, and the form that one written to C2 selects
+abbrev led : Option ℕ → Option ℕ
+led None = None
+led (Some b) = Some (b / 64)
+
+abbrev pub form_in : Option ℕ → Option Form
+form_in None = None
+form_in (Some b) = Some (unwrap_or (form_of (b / 8 % 8)) SixEven)
 
 -- the settings after the pins get these levels and the registers these bytes
 abbrev pub next_by : Option Bool → Option Bool → Option Bool → Option ℕ → Option ℕ → View → View
@@ -92,22 +95,70 @@ next_by p q r a b v = record {
   reset = or_else p v.reset;
   cts = or_else q v.cts;
   dcd = or_else r v.dcd;
-  two = or_else (bit_of 7 a) v.two;
-  one = or_else (bit_of 6 a) v.one;
+  goes = or_else (led a) v.goes;
   clear = or_else (bit_of 3 a) v.clear;
   strip = or_else (bit_of 2 a) v.strip;
   rx = cond (or_else p v.reset) (or_else (bit_of 0 a) v.rx) true;
   tx = cond (or_else p v.reset) (or_else (bit_of 1 a) v.tx) true;
-  external = cond (or_else p v.reset) (or_else (bit_of 0 (at v false true b)) v.external) false;
-  sync = or_else (bit_of 1 (at v false true b)) v.sync;
-  form = or_else (formIn (at v false false b)) v.form;
-  code = or_else (at v true false b) v.code;
-  written = one_more (at v true true b) v.written;
+  external = cond (or_else p v.reset) (or_else (bit_of 0 (at v 1 b)) v.external) false;
+  sync = or_else (bit_of 1 (at v 1 b)) v.sync;
+  form = or_else (form_in (at v 0 b)) v.form;
+  code = or_else (at v 2 b) v.code;
+  written = one_more (at v 3 b) v.written;
 }
 
--- so the settings of a history go on, by definition
 abbrev pub next_view : Event → View → View
 next_view e v = next_by (level_for 0 e) (level_for 1 e) (level_for 2 e) (writes 0 e) (writes 1 e) v
+
+-- a bit of the byte that was written last, where the byte leads, and the form that it selects
+bit_last : (i : ℕ) (o : Option ℕ) (x : ℕ) → bit_at i (or_else o x) ≡ or_else (bit_of i o) (bit_at i x)
+bit_last i None x = refl
+bit_last i (Some b) x = refl
+
+led_last : (o : Option ℕ) (x : ℕ) → or_else o x / 64 ≡ or_else (led o) (x / 64)
+led_last None x = refl
+led_last (Some b) x = refl
+
+form_last : (o : Option ℕ) (x : ℕ) → unwrap_or (form_of (or_else o x / 8 % 8)) SixEven ≡ or_else (form_in o) (unwrap_or (form_of (x / 8 % 8)) SixEven)
+form_last None x = refl
+form_last (Some b) x = refl
+
+-- the next settings, with these in place of those that are read out of the bytes written last
+abbrev with_last : History → ℕ → ℕ → Bool → Bool → Bool → Form → View
+with_last E k g c t o f = record {
+  reset = reset E (suc k);
+  cts = cts E (suc k);
+  dcd = dcd E (suc k);
+  goes = g;
+  clear = c;
+  strip = t;
+  rx = rx_reset E (suc k);
+  tx = tx_reset E (suc k);
+  external = external E (suc k);
+  sync = o;
+  form = f;
+  code = sync_code E (suc k);
+  written = written E (suc k);
+}
+
+-- the same settings with the same of these
+same_last : (E : History) (k : ℕ) {g g' : ℕ} {c c' t t' o o' : Bool} {f f' : Form} → g ≡ g' → c ≡ c' → t ≡ t' → o ≡ o' → f ≡ f' → with_last E k g c t o f ≡ with_last E k g' c' t' o' f'
+same_last E k {g = g} {g' = g'} {c = c} {c' = c'} {t = t} {t' = t'} {o = o} {o' = o'} {f = f} {f' = f'} p q r u v =
+    ap (λ x. with_last E k x c t o f) p
+    ∙ ap (λ x. with_last E k g' x t o f) q
+    ∙ ap (λ x. with_last E k g' c' x o f) r
+    ∙ ap (λ x. with_last E k g' c' t' x f) u
+    ∙ ap (λ x. with_last E k g' c' t' o' x) v
+
+-- so the settings of a history go on
+pub view_next : (E : History) (k : ℕ) → view_at E (suc k) ≡ next_view (E k) (view_at E k)
+view_next E k =
+    let goes = led_last (to_c1 E k) (c1 E k) in
+    let clear = bit_last 3 (to_c1 E k) (c1 E k) in
+    let strip = bit_last 2 (to_c1 E k) (c1 E k) in
+    let sync = bit_last 1 (to_c3 E k) (latest 0 (to_c3 E) k) in
+    let word = form_last (to_c2 E k) (latest 0 (to_c2 E) k) in
+    same_last E k goes clear strip sync word
 
 -- while RESET is low, what it holds is held
 pub record Low (v : View) : Type 0 where
@@ -136,18 +187,15 @@ quiet v l =
     let c = keep v.reset v.external false l.external_held in
     simp (cond_same, a, b, c)
 
--- AC2 and AC1 lead where they say
-two_of_lem : (x y : Bool) → two_of (reg.addressed x y) ≡ x
-two_of_lem false false = refl
-two_of_lem false true = refl
-two_of_lem true false = refl
-two_of_lem true true = refl
-
-one_of_lem : (x y : Bool) → one_of (reg.addressed x y) ≡ y
-one_of_lem false false = refl
-one_of_lem false true = refl
-one_of_lem true false = refl
-one_of_lem true true = refl
+-- a byte leads where its two upper bits say
+pub leads : (b : ℕ) → b < 256 → place_of (reg.addressed (reg.bit_of 7 b) (reg.bit_of 6 b)) ≡ b / 64
+leads b h = go (reg.bit_of 7 b) (reg.bit_of 6 b) refl refl
+  where
+    go : (x y : Bool) → reg.bit_of 7 b ≡ x → reg.bit_of 6 b ≡ y → place_of (reg.addressed x y) ≡ b / 64
+    go true true e f = let i = eqb-true (b / 128 % 2) 1 e in let j = eqb-true (b / 64 % 2) 1 f in omega (arith, h)
+    go true false e f = let i = eqb-true (b / 128 % 2) 1 e in let j = eqb-false (b / 64 % 2) 1 f in omega (arith, h)
+    go false true e f = let i = eqb-false (b / 128 % 2) 1 e in let j = eqb-true (b / 64 % 2) 1 f in omega (arith, h)
+    go false false e f = let i = eqb-false (b / 128 % 2) 1 e in let j = eqb-false (b / 64 % 2) 1 f in omega (arith, h)
 
 -- a bit that RESET holds at 1, and one that it holds at 0, as written
 held_one : (b r : Bool) → (b || not r) ≡ cond r b true
@@ -163,10 +211,11 @@ held_zero false true = refl
 held_zero false false = refl
 
 -- a byte written to C1, and to each of the others
-pub view_c1 : (f : Front) (b : ℕ) → Low (view_of f) → view_of (wrote_c1 f b) ≡ next_by None None None (Some b) None (view_of f)
-view_c1 f b l =
+pub view_c1 : (f : Front) (b : ℕ) → b < 256 → Low (view_of f) → view_of (wrote_c1 f b) ≡ next_by None None None (Some b) None (view_of f)
+view_c1 f b h l =
     let c = keep f.pins.reset f.setup.external false l.external_held in
-    simp (cond_same, c, two_of_lem, one_of_lem, held_one)
+    let g = leads b h in
+    simp (cond_same, c, g, held_one)
 
 -- what RESET holds is kept where RESET keeps its level
 module _ (f : Front) (l : Low (view_of f)) where

@@ -22,7 +22,7 @@ use Rattle.history.specs.Events.{bit_at, reads}
 use Rattle.history.specs.Settings.{History, ReadsStatus}
 use Rattle.history.specs.Lines.{written}
 use Rattle.history.specs.Law.{Answer, Truthful, Overrun, receiving, transmitting, Shifts, Declined, history, answer, Lawful}
-use Rattle.history.specs.Answering.{state_at, answer_at, answers_to, standing_after, EveryHistoryLawful}
+use Rattle.history.specs.Answering.{WritesBytes, state_at, answer_at, answers_to, standing_after, EveryHistoryLawful}
 use Rattle.history.proofs.Cases.{outcome_by}
 use Rattle.history.proofs.Foretold.{one_shift}
 use Rattle.history.proofs.OnePhase.{one_phase}
@@ -86,7 +86,7 @@ status_value s (PinLevel p l) h = false_true h
 
 -- EACH ANSWER
 
-module _ (E : History) (k : ℕ) where
+module _ (E : History) (bytes : WritesBytes E) (k : ℕ) where
   abbrev s : State
   s = state_at E k
 
@@ -94,7 +94,7 @@ module _ (E : History) (k : ℕ) where
   overrun_shown : ReadsStatus E k → (bit_at 5 (tells s (E k)).value ≡ true) ↔ Overrun E k
   overrun_shown h =
       let e : bit_at 5 (tells s (E k)).value ≡ s.flags.overrun = ap (bit_at 5) (status_value s (E k) h) ∙ bit_five s.flags (conditions_of s) (interrupt_of s) in
-      ((λ i. (overrun_flag E k).0 (sym e ∙ i)), (λ o. e ∙ (overrun_flag E k).1 o))
+      ((λ i. (overrun_flag E bytes k).0 (sym e ∙ i)), (λ o. e ∙ (overrun_flag E bytes k).1 o))
 
   -- the answer to an accepted event tells what happened
   replied_truthful : rec.RightIn E k (Ok (tells s (E k))) → sent.RightIn E k (Ok (tells s (E k))) → Truthful E k (replied s (E k))
@@ -113,18 +113,18 @@ module _ (E : History) (k : ℕ) where
   truthful_by (Err q) a b r e = ok_err r q (sym e)
 
   truthful_at : (r : Reply) → answer_at E k ≡ Ok r → Truthful E k r
-  truthful_at r e = truthful_by (checked_by s.front (E k)) (received_right E k) (written_right E k) r e
+  truthful_at r e = truthful_by (checked_by s.front (E k)) (received_right E bytes k) (written_right E bytes k) r e
 
   -- THE QUESTION
 
   -- it shows who waits where
   received_shown : (n p : ℕ) → Shows (standing_in s).received n p ↔ Stands (receiving E) k n p
   received_shown n p =
-      subst (λ (q : Queue ℕ). Shows q n p ↔ Stands (receiving E) k n p) (sym (waits E k).numbers) (shown (receiving E) (receive_act E) (count E) (receiving_sane E) k n p)
+      subst (λ (q : Queue ℕ). Shows q n p ↔ Stands (receiving E) k n p) (sym (waits E bytes k).numbers) (shown (receiving E) (receive_act E) (count E) (receiving_sane E) k n p)
 
   queued_shown : (n p : ℕ) → Shows (standing_in s).queued n p ↔ Stands (transmitting E) k n p
   queued_shown n p =
-      subst (λ (q : Queue ℕ). Shows q n p ↔ Stands (transmitting E) k n p) (sym (sends E k).numbers) (shown (transmitting E) (transmit_act E) (written E) (transmitting_sane E) k n p)
+      subst (λ (q : Queue ℕ). Shows q n p ↔ Stands (transmitting E) k n p) (sym (sends E bytes k).numbers) (shown (transmitting E) (transmit_act E) (written E) (transmitting_sane E) k n p)
 
   -- and who is being shifted
   number_shown : (m : ℕ) → ShiftsNow E k m → (n : ℕ) → (number_if m ≡ Some n) ↔ ((l j : ℕ) × Shifts E k n l j)
@@ -141,11 +141,11 @@ module _ (E : History) (k : ℕ) where
       from y = named ∙ ap Some (one_shift E k i l j n y.0 y.1 x y.2).0
 
   shifting_shown : (n : ℕ) → ((standing_in s).shifting ≡ Some n) ↔ ((l j : ℕ) × Shifts E k n l j)
-  shifting_shown n = number_shown (shifting_in s.front.timing s.shift) (shifting_now_lem E k s (sends E k) (timed E k)) n
+  shifting_shown n = number_shown (shifting_in s.front.timing s.shift) (shifting_now_lem E k s (sends E bytes k) (timed E bytes k)) n
 
 -- THE WHOLE LAW
 
-module _ (es : List Event) where
+module _ (es : List Event) (bytes : WritesBytes (history es)) where
   abbrev E : History
   E = history es
 
@@ -155,10 +155,10 @@ module _ (es : List Event) where
 
   -- it is refused, and it tells, as the law says
   refused : (k : ℕ) → k < length es → (r : Refusal) → (answer (answers_to es) k ≡ Err r) ↔ Declined E k r
-  refused k h r = subst (λ (a : Answer). (a ≡ Err r) ↔ Declined E k r) (sym (answer_is k h)) (refused_at E k r)
+  refused k h r = subst (λ (a : Answer). (a ≡ Err r) ↔ Declined E k r) (sym (answer_is k h)) (refused_at E bytes k r)
 
   truthful : (k : ℕ) → k < length es → (r : Reply) → answer (answers_to es) k ≡ Ok r → Truthful E k r
-  truthful k h r e = truthful_at E k r (sym (answer_is k h) ∙ e)
+  truthful k h r e = truthful_at E bytes k r (sym (answer_is k h) ∙ e)
 
   -- the law holds of every list of events
   lawful : Lawful es (answers_to es) (standing_after es)
@@ -169,16 +169,16 @@ module _ (es : List Event) where
     receiver_in_one_phase = one_phase E;
     transmitter_in_one_state = one_state E;
     each_received_one_fate = received_one_fate E (length es);
-    received_told_once = received_once es (answers_to es) (standing_after es) refused truthful (received_shown E (length es)) (queued_shown E (length es)) (shifting_shown E (length es));
+    received_told_once = received_once es (answers_to es) (standing_after es) refused truthful (received_shown E bytes (length es)) (queued_shown E bytes (length es)) (shifting_shown E bytes (length es));
     delivered_rise = delivered_rising E;
     each_written_one_fate = written_one_fate E (length es);
-    written_told_once = written_once es (answers_to es) (standing_after es) refused truthful (received_shown E (length es)) (queued_shown E (length es)) (shifting_shown E (length es));
+    written_told_once = written_once es (answers_to es) (standing_after es) refused truthful (received_shown E bytes (length es)) (queued_shown E bytes (length es)) (shifting_shown E bytes (length es));
     sent_rise = sent_rising E;
     sent_bits_are_the_word = sent_bits es (answers_to es) refused truthful;
-    received_waiting_told = received_shown E (length es);
-    written_waiting_told = queued_shown E (length es);
-    shifting_told = shifting_shown E (length es);
+    received_waiting_told = received_shown E bytes (length es);
+    written_waiting_told = queued_shown E bytes (length es);
+    shifting_told = shifting_shown E bytes (length es);
   }
 
 pub every_history_lawful : EveryHistoryLawful
-every_history_lawful es = lawful es
+every_history_lawful es bytes = lawful es bytes

@@ -1,9 +1,11 @@
 -- What the calls of one new adapter answer to a list of events, and that this is lawful. Assumes nothing.
-use Rattle.std.specs.Prelude.{◌≡◌, ℕ, zero, suc, ◌-◌, List, map, length, Ok, Err, vec_items, Result, Vec}
+use Rattle.std.specs.Prelude.{◌≡◌, ℕ, zero, suc, ◌-◌, ◌<◌, List, map, length, Ok, Err, vec_items, Result, Vec}
 use Rattle.std.specs.List.{range_with_len}
 use Rattle.std.specs.declared.alloc.AllocError.{AllocError}
 use Rattle.std.specs.declared.alloc.Global.{Global}
 use Rattle.serial.specs.declared.event.Event.{Event}
+use Rattle.serial.specs.declared.event.Event.TheVariants.{Bus, ReceivedBit, TransmitClock, PinLevel}
+use Rattle.serial.specs.declared.event.Cycle.TheVariants.{Idle, Read, Write}
 use Rattle.serial.specs.declared.slip.Reply.{Reply}
 use Rattle.serial.specs.declared.slip.Standing.{Standing}
 use Rattle.ssda.specs.declared.receiver.Phase as chip
@@ -34,9 +36,21 @@ answers_to es = map (answer_at (history es)) (range_with_len 0 (length es))
 abbrev pub standing_after : List Event → Standing
 standing_after es = standing_in (state_at (history es) (length es))
 
+-- what an event writes is a byte: below 256, as all that a program can hand over
+abbrev pub WritesByte : Event → Type 0
+WritesByte (Bus Idle) = Unit {0}
+WritesByte (Bus (Read rs)) = Unit {0}
+WritesByte (Bus (Write rs b)) = b < 256
+WritesByte (ReceivedBit b) = Unit {0}
+WritesByte TransmitClock = Unit {0}
+WritesByte (PinLevel p l) = Unit {0}
+
+abbrev pub WritesBytes : History → Type 0
+WritesBytes E = (k : ℕ) → WritesByte (E k)
+
 -- whatever the events, the answers are lawful
 abbrev pub EveryHistoryLawful : Type 0
-EveryHistoryLawful = (es : List Event) → Lawful es (answers_to es) (standing_after es)
+EveryHistoryLawful = (es : List Event) → WritesBytes (history es) → Lawful es (answers_to es) (standing_after es)
 
 -- all events were answered, and the adapter's state is now s: a question put to it is then lawful with the answers
 abbrev pub AnswersAll : List Event → Result (Vec Answer Global) AllocError → State → Type 0
@@ -78,4 +92,4 @@ pub record Tied (E : History) (k : ℕ) (s : State) : Type 0 where
   pub transmitter : (z : Sending) → Transmitter E k z → s.front.timing ≡ timing_for E z
 
 abbrev pub LinesTied : Type 0
-LinesTied = (E : History) (k : ℕ) → Tied E k (state_at E k)
+LinesTied = (E : History) → WritesBytes E → (k : ℕ) → Tied E k (state_at E k)

@@ -3,8 +3,9 @@
 
 ghost use Rattle.std.specs.Prelude.{◌≡◌, Ok};
 ghost use Rattle.ssda.specs.State.{new_state};
+ghost use Rattle.ssda.specs.Stepped.{stepped, answered};
 ghost use Rattle.history.specs.Law.{AllSettled, Pinned};
-ghost use Rattle.history.specs.Answering.{Replays, AnswersAll, EveryHistoryLawful, InterruptShown, LinesTied};
+ghost use Rattle.history.specs.Answering.{WritesByte, Replays, AnswersAll, EveryHistoryLawful, InterruptShown, LinesTied};
 
 use serial::event::{Event, Refusal};
 use serial::slip::{Reply, Standing};
@@ -39,9 +40,18 @@ fn answer_all(
 {
     let mut answers = Vec::new(heap);
     for event in events {
-        answers.push(adapter.event(*event))?;
+        answers.push(hand(adapter, *event))?;
     }
     Ok(answers)
+}
+
+// One event handed to the adapter. What the event writes, if anything, is a byte.
+fn hand(adapter: &mut Adapter, event: Event) -> Result<Reply, Refusal>
+    ensures state { adapter.new.state ≡ stepped adapter.old.state event }
+    ensures answer { result ≡ answered adapter.old.state event }
+    ensures byte { WritesByte event }
+{
+    adapter.event(event)
 }
 
 // The answers to all events, with the question put at the end.

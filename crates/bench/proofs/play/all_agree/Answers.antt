@@ -9,7 +9,7 @@ pub loop-check-preserved : goal.loop-check-preserved
 loop-check-preserved c =
     let checks = c.args.checks.now in
     let i = c.loop-check.check-index in
-    c.ok-with-ok.ensures
+    c.ok_with-ok.ensures
     ∙ ap (λ ok. agreeing ok (get_or checks i (record { look = Byte; came = 0; should = 0 }))) c.loop-check.invariant
     ∙ sym (fold_more agreeing true checks i (record { look = Byte; came = 0; should = 0 }) (omega arith))
 

@@ -10,7 +10,7 @@ pub loop-line-preserved : goal.loop-line-preserved
 loop-line-preserved c =
     let lines = c.args.lines.now in
     let i = c.loop-line.line-index in
-    c.in-ok-follow.ensures
+    c.in_ok-follow.ensures
     ∙ ap (λ n. noted n (get_or lines i (Do Idle))) c.loop-line.invariant
     ∙ sym (fold_more noted (record { seen = new_seen; checks = [] }) lines i (Do Idle) (omega arith))
 

@@ -7,5 +7,5 @@ loop-turn-preserved c = rw add-one (c.clock.ensures ∙ ap clocked c.loop-turn.i
 
 pub returns : goal.returns
 returns c =
-    let e : c.loop-turn.-turn ≡ c.args.count = omega arith in
+    let e : c.loop-turn._turn ≡ c.args.count = omega arith in
     c.loop-turn.invariant ∙ ap (clocks (seen_at c.args.self.now)) e

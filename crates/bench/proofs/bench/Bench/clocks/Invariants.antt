@@ -4,4 +4,4 @@ use Rattle.bench.proofs.bench.Bench.clocks.Given as goal
 
 -- so far: these clocks were given
 abbrev pub invariant-loop-turn : goal.invariant-loop-turn
-invariant-loop-turn l = seen_at l.self ≡ clocks (seen_at l.initial.self) l.-turn
+invariant-loop-turn l = seen_at l.self ≡ clocks (seen_at l.initial.self) l._turn

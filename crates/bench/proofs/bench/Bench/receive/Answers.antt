@@ -3,7 +3,7 @@ use Rattle.bench.specs.Bench.{seen_at, handed, bits}
 use Rattle.bench.proofs.bench.Bench.receive.Goals as goal
 
 pub loop-place-preserved : goal.loop-place-preserved
-loop-place-preserved c = rw add-one (c.hand.ensures ∙ ap₂ handed c.loop-place.invariant c.bit-event.ensures)
+loop-place-preserved c = rw add-one (c.hand.ensures ∙ ap₂ handed c.loop-place.invariant c.bit_event.ensures)
 
 pub returns : goal.returns
 returns c =

@@ -17,8 +17,8 @@ returns-in-err-hand c =
 
 pub loop-place-preserved : goal.loop-place-preserved
 loop-place-preserved c =
-    one_more (kept_on c.args.self.now) (kept_on c.loop-place.self) (kept_on c.hand.new.self) c.args.byte c.loop-place.place c.bit-event.result c.loop-place.invariant (omega arith) c.bit-event.ensures c.in-ok-hand.ensures.1
+    one_more (kept_on c.args.self.now) (kept_on c.loop-place.self) (kept_on c.hand.new.self) c.args.byte c.loop-place.place c.bit_event.result c.loop-place.invariant (omega arith) c.bit_event.ensures c.in_ok-hand.ensures.1
 
 pub returns : goal.returns
 returns c =
-    handed_last (kept_on c.args.self.now) (kept_on c.loop-place.self) (kept_on c.hand-2.new.self) c.args.byte c.loop-place.place c.bit-event-2.result c.loop-place.invariant c.hand-2.result (omega arith) c.bit-event-2.ensures c.hand-2.ensures
+    handed_last (kept_on c.args.self.now) (kept_on c.loop-place.self) (kept_on c.hand-2.new.self) c.args.byte c.loop-place.place c.bit_event-2.result c.loop-place.invariant c.hand-2.result (omega arith) c.bit_event-2.ensures c.hand-2.ensures
