@@ -1,6 +1,6 @@
 -- What a test over examples says, and the tests of the table. Assumes nothing.
 use Rattle.std.proofs.Common.{◌≡◌, Bool, true, false, ◌&&◌, List, [], ◌∷◌, refl, eqb-true}
-use Rattle.std.specs.List.{AllByRecursion as All}
+use Rattle.std.specs.List.{AllByRecursion}
 use Rattle.serial.specs.Words as words
 use Rattle.bench.specs.declared.script.Line.{Line}
 use Rattle.bench.specs.declared.script.Line.TheVariants.{Do, Comes}
@@ -24,7 +24,7 @@ passed (Do a ∷ ls) v h = passed ls (did v a) h
 passed (Comes l n ∷ ls) v h = (eqb-true _ _ (first _ _ h), passed ls v (second _ _ h))
 
 -- and so does a list of examples
-all_passed : (ts : List Topic) → tests ts ≡ true → All ComesRight ts
+all_passed : (ts : List Topic) → tests ts ≡ true → AllByRecursion ComesRight ts
 all_passed [] h = tt
 all_passed (t ∷ ts) h = (passed (script_of t) new_seen (first _ _ h), all_passed ts (second _ _ h))
 

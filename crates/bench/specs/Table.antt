@@ -2,7 +2,7 @@
 use Rattle.std.specs.Prelude.{◌≡◌, Bool, true, ◌&&◌, List, [], ◌∷◌, Ok, Err, vec_items, Result, Vec}
 use Rattle.std.specs.declared.alloc.AllocError.{AllocError}
 use Rattle.std.specs.declared.alloc.Global.{Global}
-use Rattle.std.specs.List.{AllByRecursion as All}
+use Rattle.std.specs.List.{AllByRecursion}
 use Rattle.bench.specs.declared.script.Line.{Line}
 use Rattle.bench.specs.declared.topic.Topic.{Topic}
 use Rattle.bench.specs.declared.topic.Topic.TheVariants as about
@@ -96,10 +96,10 @@ tests [] = true
 tests (t ∷ ts) = test new_seen (script_of t) && tests ts
 
 pub record WorkedHold : Type 0 where
-  pub each : All ComesRight worked
+  pub each : AllByRecursion ComesRight worked
 
 pub record FurtherHold : Type 0 where
-  pub each : All ComesRight further
+  pub each : AllByRecursion ComesRight further
 
 -- a script as it is handed out; it can fail for want of memory only
 abbrev pub Copied : List Line → Result (Vec Line Global) AllocError → Type 0

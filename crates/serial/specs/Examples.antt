@@ -1,7 +1,7 @@
 -- Worked examples, written by hand: what is sent, and the bits that must come. Assumes nothing.
 use Rattle.std.specs.Prelude.{◌≡◌, ℕ, ◌-◌, List, [], ◌∷◌, map, length, codes}
 use Prim.Native.String.{String}
-use Rattle.std.specs.List.{AllByRecursion as All}
+use Rattle.std.specs.List.{AllByRecursion}
 use Rattle.serial.specs.declared.word.Form.TheVariants.{SixEven, SixOdd, SevenEven, SevenOdd, EightEven}
 use Rattle.serial.specs.declared.example.Sending.{Sending}
 use Rattle.serial.specs.declared.example.Sending.TheVariants.{Word, SyncFill, MarkFill}
@@ -36,4 +36,4 @@ abbrev pub Holds : Example → Type 0
 Holds e = handed (line_of e.sending) ≡ (e.bits, e.count)
 
 abbrev pub ExamplesHold : Type 0
-ExamplesHold = All Holds examples
+ExamplesHold = AllByRecursion Holds examples
