@@ -1,5 +1,5 @@
 -- Events that were handed over one by one were handed over in order. Assumes nothing.
-use Rattle.std.proofs.Common.{◌≡◌, ℕ, zero, suc, ◌+◌, ◌<◌, List, [], ◌∷◌, ◌++◌, get_or, take, Ok, Err, Result, sym, refl, ap, ◌∙◌, subst, ap₂, arith}
+use Rattle.std.proofs.Common.{◌≡◌, ℕ, zero, suc, ◌+◌, ◌<◌, List, [], get_or, take, Ok, Err, Result, sym, refl, ap, ◌∙◌, subst, ap₂, arith}
 use Rattle.std.proofs.lemmas.List.Sums.{fold_more}
 use Rattle.serial.specs.declared.event.Event.{Event}
 use Rattle.serial.specs.declared.slip.Reply.{Reply}

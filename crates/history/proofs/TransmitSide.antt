@@ -27,7 +27,7 @@ use Rattle.ssda.specs.declared.transmitter.Timing.TheVariants.{Showing}
 use Rattle.ssda.specs.Step.{told_of, cleared_written, overwrite_of, write_told, tell_shift, clock_told, loaded_state, advanced_state}
 use Rattle.ssda.specs.Step as step
 use Rattle.ssda.specs.Transmitter.{byte_number, bit_shown, loads_at, shifted_on, shifting_in, word_for}
-use Rattle.history.specs.Events.{idles, clocks, writes}
+use Rattle.history.specs.Events.{idles, clocks}
 use Rattle.history.specs.Settings.{History, to_data, form, held, Cuts, by_tx_reset, ResetsTransmitter}
 use Rattle.history.specs.Lines.{T, written, Writes, Sending, still, starting, showing, Transmitter, Loads, first_word, next_word, holds, loaded, shown}
 use Rattle.history.specs.Law.{transmitting, Drops, Does, queue_code, shift_code, Shifts, only}

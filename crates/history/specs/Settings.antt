@@ -1,7 +1,7 @@
 -- What is set at each moment of a history: the pins and the registers. Assumes nothing.
 -- Moment k lies after the first k events, and event k happens between moments k and k + 1.
 -- An event that is declined sets nothing.
-use Rattle.std.specs.Prelude.{◌≡◌, ℕ, zero, suc, ◌+◌, ◌/◌, ◌%◌, ◌<◌, ◌≤◌, Bool, true, false, cond, not, ◌&&◌, ◌||◌, ◌⊎◌, Some, None, Option, ◌==◌}
+use Rattle.std.specs.Prelude.{◌≡◌, ℕ, zero, suc, ◌/◌, ◌%◌, Bool, true, false, cond, ◌||◌, Some, None, Option, ◌==◌}
 use Rattle.serial.specs.declared.event.Event.{Event}
 use Rattle.serial.specs.declared.word.Form.{Form}
 use Rattle.std.specs.Option.{unwrap_or}

@@ -8,7 +8,7 @@ use serial::word::Form;
 use std::alloc::{AllocFailed, Global};
 
 // The longest order, in bytes.
-pub const limit: usize = 4096;
+pub const LIMIT: usize = 4096;
 
 // Why there is no tally or no table.
 #[derive(Clone, Copy)]
@@ -80,7 +80,7 @@ impl Tally {
 pub fn exchange(form: Form, order: &[u8]) -> Result<Tally, Fault>
     ensures { result ≡ exchanged form order.now }
 {
-    if order.len() > limit {
+    if order.len() > LIMIT {
         return Err(Fault::TooLong);
     }
     let total = usize::from(form.total_bits());

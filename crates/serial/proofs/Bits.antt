@@ -1,5 +1,5 @@
 -- Laws of lists of bits and of the numbers that they stand for. Assumes nothing.
-use Rattle.std.proofs.Common.{◌≡◌, ℕ, zero, suc, ◌+◌, ◌-◌, ◌*◌, ◌/◌, ◌%◌, ◌^◌, ◌<◌, ◌≤◌, false, cond, eqb, ◌⊎◌, List, [], ◌∷◌, ◌++◌, length, get_or, take, sym, refl, ap, ◌∙◌, ap₂, inl, inr, le_of_suc-le-suc, mod-lt, mul_assoc, pow-suc, add-one, one-add, arith, lit<, pow_pos}
+use Rattle.std.proofs.Common.{◌≡◌, ℕ, zero, suc, ◌+◌, ◌-◌, ◌*◌, ◌/◌, ◌%◌, ◌^◌, ◌<◌, ◌≤◌, eqb, ◌⊎◌, List, [], ◌∷◌, ◌++◌, length, get_or, take, sym, refl, ap, ◌∙◌, ap₂, inl, inr, le_of_suc-le-suc, mod-lt, mul_assoc, pow-suc, add-one, one-add, arith, lit<, pow_pos}
 use native.Mathlib.Nat.{mod-one}
 use lib.Bits.{bit_or, or_shifted_r, bit_xor, xor_step, xor_zero_r, differ}
 use lib.Count.{ones, ones_cat}

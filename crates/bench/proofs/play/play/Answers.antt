@@ -1,9 +1,9 @@
-use Rattle.std.proofs.Common.{[], get_or, fold, sym, ap, ◌∙◌, arith}
+use Rattle.std.proofs.Common.{[], get_or, sym, ap, ◌∙◌, arith}
 use Rattle.std.proofs.lemmas.List.{take_all}
 use Rattle.std.proofs.lemmas.List.Sums.{fold_more}
 use Rattle.bench.specs.declared.script.Act.TheVariants.{Idle}
 use Rattle.bench.specs.declared.script.Line.TheVariants.{Do}
-use Rattle.bench.specs.Bench.{notes_of, noted, new_seen, checked_all}
+use Rattle.bench.specs.Bench.{noted, new_seen, checked_all}
 use Rattle.bench.proofs.play.play.Goals as goal
 
 pub loop-line-preserved : goal.loop-line-preserved
