@@ -7,14 +7,18 @@ mod tally;
 use anyhow::anyhow;
 use serial::word::Parity;
 use std::io::Read;
+use std::process::ExitCode;
 use tally::{Fault, Row, Table, tabulate};
 
-fn main(rt: HostRuntime) -> anyhow::Result<()> {
-    let done = run(&rt);
-    if let Err(why) = &done {
-        eprintln!(rt; "{why}")?;
+// A run that fails says why in one sentence on standard error, and ends with exit status 1.
+fn main(rt: HostRuntime) -> ExitCode {
+    match run(&rt) {
+        Ok(()) => ExitCode::SUCCESS,
+        Err(why) => {
+            let _ = eprintln!(rt; "{why}");
+            ExitCode::FAILURE
+        }
     }
-    done
 }
 
 // Reads one byte more than an order may have, so that a longer one is noticed.
