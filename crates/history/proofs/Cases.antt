@@ -61,15 +61,15 @@ abbrev pub outcome : State → Event → Outcome
 outcome s e = outcome_by (checked_by s.front e) s e
 
 -- numbers by the few that count
-module _ (P : ℕ → Type 0) (zero-case : P 0) (one-case : P 1) where
+module _ (P : ℕ → Type 0) (zero_case : P 0) (one_case : P 1) where
   two_cases : ((n : ℕ) → 1 < n → P n) → (n : ℕ) → P n
-  two_cases f zero = zero-case
-  two_cases f (suc zero) = one-case
+  two_cases f zero = zero_case
+  two_cases f (suc zero) = one_case
   two_cases f (suc (suc n)) = f (suc (suc n)) (omega arith)
 
   three_cases : P 2 → ((n : ℕ) → 2 < n → P n) → (n : ℕ) → P n
-  three_cases t f zero = zero-case
-  three_cases t f (suc zero) = one-case
+  three_cases t f zero = zero_case
+  three_cases t f (suc zero) = one_case
   three_cases t f (suc (suc zero)) = t
   three_cases t f (suc (suc (suc n))) = f (suc (suc (suc n))) (omega arith)
 

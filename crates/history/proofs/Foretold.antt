@@ -60,24 +60,24 @@ module _ {F C : Type 0} (code_of : F → C) (nothing : C) (H : ℕ → F → Typ
         who : (m : ℕ) → Names (only n) m → n ≡ m
         who m i = omega arith
 
-    -- where those who left a queue in some way are those to whom something happened, and codeFor has its code for that way,
+    -- where those who left a queue in some way are those to whom something happened, and code_for has its code for that way,
     -- what the queue tells is what is told
-    as_the_queue_tells : (L : ℕ → Way → Type 0) (way : Option Way) (who : Numbers) → Tells Some None L way who → (codeFor : Option Way → C) → codeFor None ≡ nothing
-        → ((n : ℕ) (f : F) → H n f → (w : Way) × L n w × (codeFor (Some w) ≡ code_of f))
-        → ((n : ℕ) (w : Way) → L n w → (f : F) × H n f × (codeFor (Some w) ≡ code_of f))
-        → Tells code_of nothing H (codeFor way) who
-    as_the_queue_tells L way who t codeFor silent to from = record {
+    as_the_queue_tells : (L : ℕ → Way → Type 0) (way : Option Way) (who : Numbers) → Tells Some None L way who → (code_for : Option Way → C) → code_for None ≡ nothing
+        → ((n : ℕ) (f : F) → H n f → (w : Way) × L n w × (code_for (Some w) ≡ code_of f))
+        → ((n : ℕ) (w : Way) → L n w → (f : F) × H n f × (code_for (Some w) ≡ code_of f))
+        → Tells code_of nothing H (code_for way) who
+    as_the_queue_tells L way who t code_for silent to from = record {
       told = λ n f. (
-        (λ h. let l = to n f h in let s = (t.told n l.0).0 l.1 in (s.0, ap codeFor s.1 ∙ l.2)),
+        (λ h. let l = to n f h in let s = (t.told n l.0).0 l.1 in (s.0, ap code_for s.1 ∙ l.2)),
         (λ h.
             let l = t.named n h.0 in
             let g = from n l.0 l.1 in
-            let e : codeFor way ≡ code_of g.0 = ap codeFor ((t.told n l.0).0 l.1).1 ∙ g.2 in
+            let e : code_for way ≡ code_of g.0 = ap code_for ((t.told n l.0).0 l.1).1 ∙ g.2 in
             let P : F → Type 0 = λ x. H n x in
             subst P (sym (found g.0) ∙ ap back (sym e ∙ h.1) ∙ found f) g.1),
       );
       named = λ n h. let l = t.named n h in let g = from n l.0 l.1 in (g.0, g.1);
-      quiet = λ none. ap codeFor (t.quiet (λ n w l. let g = from n w l in none n g.0 g.1)) ∙ silent;
+      quiet = λ none. ap code_for (t.quiet (λ n w l. let g = from n w l in none n g.0 g.1)) ∙ silent;
       in_order = t.in_order;
     }
 

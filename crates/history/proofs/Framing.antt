@@ -72,9 +72,9 @@ module _ (E : History) (bytes : WritesBytes E) (k b : ℕ) (came : received (E k
 
   -- off: none
   number_off : off_of f ≡ true → frame_at E k ≡ None
-  number_off is-off =
+  number_off is_off =
       ap (λ o. ends_at (phase_at E k).0 (phase_at E k).1 (takes o (off E k) (phase_at E k).1) (T E k)) came
-      ∙ ap (λ o. ends_at (phase_at E k).0 (phase_at E k).1 (not o && ltb (phase_at E k).1 limit) (T E k)) (sym (off_now E bytes k) ∙ is-off)
+      ∙ ap (λ o. ends_at (phase_at E k).0 (phase_at E k).1 (not o && ltb (phase_at E k).1 limit) (T E k)) (sym (off_now E bytes k) ∙ is_off)
       ∙ none (phase_at E k).0
     where
       none : (p : Phase) → ends_at p (phase_at E k).1 false (T E k) ≡ None

@@ -130,14 +130,14 @@ module _ (E : History) where
     clear_still no_loss u = clear (earlier_losses (λ i. Undone i (suc k)) no_loss (λ i l m. undone_still i (u i l m)))
 
     fresh_still : (Loss k → ⊥) → (ResetsReceiver E k → ⊥) → (ReadsStatus E k → ⊥) → (i : ℕ) → i < k → Loss i → (Between Loss i k → ⊥) → (Between (λ j. ResetsReceiver E j) i k → ⊥) → (Between (λ j. ReadsStatus E j) i k → ⊥) → Flag (suc k) true false
-    fresh_still no_loss no_reset no-status i l m none r s =
+    fresh_still no_loss no_reset no_status i l m none r s =
         fresh
         i
         (omega arith)
         m
         (λ b. none (not_at_last Loss i k no_loss b))
         (λ b. r (not_at_last (λ j. ResetsReceiver E j) i k no_reset b))
-        (λ b. s (not_at_last (λ j. ReadsStatus E j) i k no-status b))
+        (λ b. s (not_at_last (λ j. ReadsStatus E j) i k no_status b))
 
     -- and so does overrun
     overrun_still : (Loss k → ⊥) → (ResetsReceiver E k → ⊥) → (ReadsData E k → ⊥) → Overrun E k → Overrun E (suc k)
@@ -157,9 +157,9 @@ module _ (E : History) where
 
     -- over an event that is none of the four
     after_nothing : (o a : Bool) → (Loss k → ⊥) → (ResetsReceiver E k → ⊥) → (ReadsStatus E k → ⊥) → (ReadsData E k → ⊥) → Flag k o a → Flag (suc k) o a
-    after_nothing o a no_loss no_reset no-status no_data (clear u) = clear_still no_loss u
-    after_nothing o a no_loss no_reset no-status no_data (fresh i l m none r s) = fresh_still no_loss no_reset no-status i l m none r s
-    after_nothing o a no_loss no_reset no-status no_data (seen v s l h none) = seen_still no_loss no_reset no_data v s l h none
+    after_nothing o a no_loss no_reset no_status no_data (clear u) = clear_still no_loss u
+    after_nothing o a no_loss no_reset no_status no_data (fresh i l m none r s) = fresh_still no_loss no_reset no_status i l m none r s
+    after_nothing o a no_loss no_reset no_status no_data (seen v s l h none) = seen_still no_loss no_reset no_data v s l h none
 
     -- a loss is the latest one and is fresh
     after_loss_lem : Loss k → Flag (suc k) true false
@@ -214,7 +214,7 @@ module _ (E : History) where
     flag_step o a p b (cleared_by_a_reset h e f) g = same_flags false false p b e f (after_reset h)
     flag_step o a p b (armed_by_a_status_read h e f) g = same_flags o (a || o) p b e f (after_status_read_lem h o a g)
     flag_step o a p b (read_by_a_data_read h e f) g = same_flags (o && not a) false p b e f (after_data_read_lem h o a g)
-    flag_step o a p b (left_alone no_loss no_reset no-status no_data e f) g = same_flags o a p b e f (after_nothing o a (λ m. no_loss m.0 m.1) no_reset no-status no_data g)
+    flag_step o a p b (left_alone no_loss no_reset no_status no_data e f) g = same_flags o a p b e f (after_nothing o a (λ m. no_loss m.0 m.1) no_reset no_status no_data g)
 
   -- at first
   no_flags : (o a : Bool) → o ≡ false → a ≡ false → Flag 0 o a

@@ -133,13 +133,13 @@ module _ (f : Front) (b : ℕ) (room : f.receiver.framed < limit) where
       let r = f.receiver in
       let v = view_of f in
       let h = rcv.heard r b f.setup.form f.code f.setup.one_sync in
-      let fedTo = fed (phase_of r.phase r.count) r.framed m f.setup.one_sync (total_bits f.setup.form) in
+      let fed_to = fed (phase_of r.phase r.count) r.framed m f.setup.one_sync (total_bits f.setup.form) in
       ap (λ t. seen_of (cond t f (with_receiver f h)).receiver) e
       ∙ fed_seen r.phase r.count r.framed (total_bits f.setup.form) (match_of f b) f.setup.one_sync _ (ends_or_not r.count (total_bits f.setup.form))
       ∙ ap (λ m. fed (phase_of r.phase r.count) r.framed m f.setup.one_sync (total_bits f.setup.form)) (sym (same e))
-      ∙ sym (ap (λ t. cond t (first v.external, r.framed) (cond (takes (Some b) (off_in v) r.framed) fedTo (seen_of r))) (no_change (off_in v) v.external)
-      ∙ ap (λ o. cond (not o && ltb r.framed limit) fedTo (seen_of r)) e
-      ∙ ap (λ t. cond t fedTo (seen_of r)) (lt-ltb _ _ room))
+      ∙ sym (ap (λ t. cond t (first v.external, r.framed) (cond (takes (Some b) (off_in v) r.framed) fed_to (seen_of r))) (no_change (off_in v) v.external)
+      ∙ ap (λ o. cond (not o && ltb r.framed limit) fed_to (seen_of r)) e
+      ∙ ap (λ t. cond t fed_to (seen_of r)) (lt-ltb _ _ room))
 
   bit_window : (o : Bool) → off_of f ≡ o → (heard_front f b).receiver.window ≡ next_window (view_of f) (view_of f) (Some b) f.receiver.window
   bit_window true e = simp e

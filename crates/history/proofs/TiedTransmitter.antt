@@ -131,8 +131,8 @@ timed E bytes zero = refl
 timed E bytes (suc k) =
     let before = state_at E k in
     let after = state_at E (suc k) in
-    let held-now = λ (h : held_of before.front ≡ true). timed E bytes k ∙ held_still E k (sending_at E k) (good_at E k) (sym (ap held_in (tied E bytes k)) ∙ h) in
-    by_cases before (Timed before held-now) (timed_cases before held-now) (E k)
+    let held_now = λ (h : held_of before.front ≡ true). timed E bytes k ∙ held_still E k (sending_at E k) (good_at E k) (sym (ap held_in (tied E bytes k)) ∙ h) in
+    by_cases before (Timed before held_now) (timed_cases before held_now) (E k)
     ∙ ap (λ v. next_timing v (view_of after.front) (clocks (E k)) before.front.timing) (tied E bytes k)
     ∙ ap (λ w. next_timing (view_at E k) w (clocks (E k)) before.front.timing) (tied E bytes (suc k))
     ∙ ap (next_timing (view_at E k) (view_at E (suc k)) (clocks (E k))) (timed E bytes k)

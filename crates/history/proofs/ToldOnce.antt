@@ -56,7 +56,7 @@ module _ (events : List Event) (answers : List Answer) (end : Standing)
     (refused : (k : ℕ) → k < length events → (r : Refusal) → (answer answers k ≡ Err r) ↔ Declined (history events) k r)
     (truthful : (k : ℕ) → k < length events → (r : Reply) → answer answers k ≡ Ok r → Truthful (history events) k r)
     (received_told : (n p : ℕ) → Shows end.received n p ↔ Stands (receiving (history events)) (length events) n p)
-    (written-told : (n p : ℕ) → Shows end.queued n p ↔ Stands (transmitting (history events)) (length events) n p)
+    (written_told : (n p : ℕ) → Shows end.queued n p ↔ Stands (transmitting (history events)) (length events) n p)
     (shifting_told : (n : ℕ) → (end.shifting ≡ Some n) ↔ ((l j : ℕ) × Shifts (history events) (length events) n l j)) where
   abbrev E : History
   E = history events
@@ -113,11 +113,11 @@ module _ (events : List Event) (answers : List Answer) (end : Standing)
   shows_going n w = (to w, from w)
     where
       to : (w : Going) → GoesOn E K n w → ShowsGoing end n w
-      to w (waits p h) = shows_waiting p ((written-told n p).1 h)
+      to w (waits p h) = shows_waiting p ((written_told n p).1 h)
       to w (shifts l j x) = shows_shifting ((shifting_told n).1 (l, j, x))
 
       from : (w : Going) → ShowsGoing end n w → GoesOn E K n w
-      from w (shows_waiting p h) = waits p ((written-told n p).0 h)
+      from w (shows_waiting p h) = waits p ((written_told n p).0 h)
       from w (shows_shifting e) = let x = (shifting_told n).0 e in shifts x.0 x.1 x.2
 
   -- so of each byte one end is told, once

@@ -1,4 +1,4 @@
--- Every answer of the adapter is truthful, and the whole law holds of every list of events. Assumes nothing.
+-- Every answer of the adapter is truthful, and the whole law holds of every list of events whose writes are bytes. Assumes nothing.
 use Rattle.std.proofs.Common.{◌≡◌, ℕ, ◌*◌, ◌/◌, ◌%◌, ◌<◌, ◌≤◌, Bool, true, false, cond, ◌||◌, eqb, ◌↔◌, List, length, Some, Ok, Err, Result, sym, refl, ap, ◌∙◌, subst, arith}
 use Rattle.std.proofs.lemmas.List.FromFn.{length-map-range_with_len, get_or-map-range_with_len}
 use Rattle.serial.specs.Life.{Stands, Shows}
@@ -160,7 +160,7 @@ module _ (es : List Event) (bytes : WritesBytes (history es)) where
   truthful : (k : ℕ) → k < length es → (r : Reply) → answer (answers_to es) k ≡ Ok r → Truthful E k r
   truthful k h r e = truthful_at E bytes k r (sym (answer_is k h) ∙ e)
 
-  -- the law holds of every list of events
+  -- the law holds of the list
   lawful : Lawful es (answers_to es) (standing_after es)
   lawful = record {
     one_answer_each = length-map-range_with_len (answer_at E) 0 (length es);

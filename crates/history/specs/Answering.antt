@@ -48,7 +48,7 @@ WritesByte (PinLevel p l) = Unit {0}
 abbrev pub WritesBytes : History → Type 0
 WritesBytes E = (k : ℕ) → WritesByte (E k)
 
--- whatever the events, the answers are lawful
+-- whatever the events, as long as what they write are bytes, the answers are lawful
 abbrev pub EveryHistoryLawful : Type 0
 EveryHistoryLawful = (es : List Event) → WritesBytes (history es) → Lawful es (answers_to es) (standing_after es)
 

@@ -197,12 +197,12 @@ module _ (A : Acts) (k : ℕ) (q : Queue ℕ) (f : ℕ) (t : Tie (Stands A k) q 
 
   -- where nobody enters, takes or empties, nobody leaves
   told_nothing : ((m : ℕ) → A.Enters k m → ⊥) → (A.Takes k → ⊥) → (A.Empties k → ⊥) → Exactly nothing
-  told_nothing no-enter no-take no-empty = those_told Emptied None None None f (tt, tt, tt, tt, tt, tt) (Left A k) to from
+  told_nothing no_enter no_take no_empty = those_told Emptied None None None f (tt, tt, tt, tt, tt, tt) (Left A k) to from
     where
       to : (n : ℕ) (v : Way) → Left A k n v → (v ≡ Emptied) × ((p : ℕ) × Held (queue_of None None None) n p)
-      to n v (was_displaced i h e) = absurd (no-enter i e)
-      to n v (was_taken h e) = absurd (no-take e)
-      to n v (was_emptied p h e) = absurd (no-empty e)
+      to n v (was_displaced i h e) = absurd (no_enter i e)
+      to n v (was_taken h e) = absurd (no_take e)
+      to n v (was_emptied p h e) = absurd (no_empty e)
 
       from : (n p : ℕ) → Held (queue_of None None None) n p → Left A k n Emptied
       from n p h = absurd (held_only None n p h)

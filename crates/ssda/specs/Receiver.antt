@@ -80,4 +80,4 @@ unmatched r = record { phase = r.phase; count = r.count; window = r.window; matc
 
 -- after a new setting: off, the match no longer shows; it restarts when it stops being off, and when external changes while it is on
 abbrev pub settled : Receiver → Bool → Bool → Bool → Bool → Receiver
-settled r wasOff isOff changed external = cond isOff (unmatched r) (cond (wasOff || changed) (restarted r external) r)
+settled r was_off is_off changed external = cond is_off (unmatched r) (cond (was_off || changed) (restarted r external) r)

@@ -26,7 +26,7 @@ ticked (Showing left) t = cond (nat_le left 1) (Showing t) (Showing (left - 1))
 
 -- after a new setting: held, or starting when the hold ends
 abbrev pub timing_after : Timing → Bool → Bool → Timing
-timing_after t wasHeld is_held = cond is_held Held (cond wasHeld Starting t)
+timing_after t was_held is_held = cond is_held Held (cond was_held Starting t)
 
 -- WHAT IT SHOWS
 
