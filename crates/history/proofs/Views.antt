@@ -1,5 +1,5 @@
 -- The settings of the adapter's front are those of the history, at every moment. Assumes nothing.
-use Rattle.std.proofs.Common.{◌≡◌, ℕ, suc, ◌/◌, ◌%◌, ◌<◌, Bool, true, false, cond, not, ◌&&◌, ◌||◌, ltb, Some, None, Option, ◌==◌, sym, refl, ap, ◌∙◌, arith}
+use Rattle.std.proofs.Common.{◌≡◌, ℕ, suc, ◌/◌, ◌%◌, ◌<◌, Bool, true, false, cond, not, ◌&&◌, ◌||◌, ltb, Some, None, Option, ◌==◌, sym, refl, arith}
 use Rattle.std.proofs.lemmas.Bool.{eqb-true, eqb-false}
 use Rattle.std.specs.Option.{unwrap_or}
 use Rattle.serial.specs.declared.event.Event.{Event}
@@ -12,7 +12,7 @@ use Rattle.ssda.specs.declared.front.Front.{Front}
 use Rattle.ssda.specs.Control as reg
 use Rattle.ssda.specs.Front.{wrote_c1, wrote_c2, wrote_c3, wrote_code, counted_write, with_cts, with_dcd, reset_fell, reset_rose}
 use Rattle.history.specs.Events.{bit_at, writes, level_for}
-use Rattle.history.specs.Settings.{History, or_else, latest, bit_of, to_c1, to_c2, to_c3, c1, reset, cts, dcd, rx_reset, tx_reset, external, clear_sync, strip_sync, one_sync, form, sync_code}
+use Rattle.history.specs.Settings.{History, or_else, bit_of, to_c1, to_c3, c1, reset, cts, dcd, rx_reset, tx_reset, external, clear_sync, strip_sync, one_sync, form, sync_code}
 use Rattle.history.specs.Lines.{one_more, written}
 use Rattle.history.proofs.Calm.{low}
 use Rattle.history.proofs.Small.{cond_same}
@@ -123,42 +123,9 @@ form_last : (o : Option ℕ) (x : ℕ) → unwrap_or (form_of (or_else o x / 8 %
 form_last None x = refl
 form_last (Some b) x = refl
 
--- the next settings, with these in place of those that are read out of the bytes written last
-abbrev with_last : History → ℕ → ℕ → Bool → Bool → Bool → Form → View
-with_last E k g c t o f = record {
-  reset = reset E (suc k);
-  cts = cts E (suc k);
-  dcd = dcd E (suc k);
-  goes = g;
-  clear = c;
-  strip = t;
-  rx = rx_reset E (suc k);
-  tx = tx_reset E (suc k);
-  external = external E (suc k);
-  sync = o;
-  form = f;
-  code = sync_code E (suc k);
-  written = written E (suc k);
-}
-
--- the same settings with the same of these
-same_last : (E : History) (k : ℕ) {g g' : ℕ} {c c' t t' o o' : Bool} {f f' : Form} → g ≡ g' → c ≡ c' → t ≡ t' → o ≡ o' → f ≡ f' → with_last E k g c t o f ≡ with_last E k g' c' t' o' f'
-same_last E k {g = g} {g' = g'} {c = c} {c' = c'} {t = t} {t' = t'} {o = o} {o' = o'} {f = f} {f' = f'} p q r u v =
-    ap (λ x. with_last E k x c t o f) p
-    ∙ ap (λ x. with_last E k g' x t o f) q
-    ∙ ap (λ x. with_last E k g' c' x o f) r
-    ∙ ap (λ x. with_last E k g' c' t' x f) u
-    ∙ ap (λ x. with_last E k g' c' t' o' x) v
-
 -- so the settings of a history go on
 pub view_next : (E : History) (k : ℕ) → view_at E (suc k) ≡ next_view (E k) (view_at E k)
-view_next E k =
-    let goes = led_last (to_c1 E k) (c1 E k) in
-    let clear = bit_last 3 (to_c1 E k) (c1 E k) in
-    let strip = bit_last 2 (to_c1 E k) (c1 E k) in
-    let sync = bit_last 1 (to_c3 E k) (latest 0 (to_c3 E) k) in
-    let word = form_last (to_c2 E k) (latest 0 (to_c2 E) k) in
-    same_last E k goes clear strip sync word
+view_next E k = simp (bit_last, led_last, form_last)
 
 -- while RESET is low, what it holds is held
 pub record Low (v : View) : Type 0 where
