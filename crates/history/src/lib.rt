@@ -75,28 +75,35 @@ fn begin() -> Adapter
 
 // The rules settle every fate, whatever an adapter answers.
 pub fn fates_settled() -> u8
-    ensures { AllSettled }
+    ensures settled { AllSettled }
+    ensures value { result ≡ 0 }
 {
     0
 }
 
 // The law leaves no choice: the history fixes what each answer tells.
 pub fn law_pins() -> u8
-    ensures { Pinned }
+    ensures pinned { Pinned }
+    ensures value { result ≡ 0 }
 {
     0
 }
 
 // The interrupt in a reply is bit 7 of a Status read made next.
 pub fn interrupt_shown() -> u8
-    ensures { InterruptShown }
+    ensures shown { InterruptShown }
+    ensures value { result ≡ 0 }
 {
     0
 }
 
 // The adapter's receiver and transmitter go by the rules of framing and sending, at every moment.
 pub fn lines_tied() -> u8
-    ensures { LinesTied }
+    ensures tied { LinesTied }
+    ensures value { result ≡ 0 }
 {
     0
 }
+
+#[cfg(test)]
+mod tests;

@@ -2,7 +2,8 @@
 use crate::tally::{Fault, tabulate};
 use serial::account::Account;
 use serial::example::worked_examples;
-use serial::queue::Numbers;
+use serial::life::{Move, Way, live};
+use serial::queue::{Numbers, Place};
 use serial::slip::{ReceiveCode, ShiftCode, Slip};
 use serial::word::Form;
 use std::test::Fail;
@@ -75,5 +76,25 @@ fn the_account_counts_each_number_once(rt: HostRuntime) -> Result<(), Fail> {
             Ok(())
         }
         Err(_) => Err(Fail::new("refused")),
+    }
+}
+
+// The first one is displaced by the second, which rises and is taken.
+#[test]
+fn a_life_is_told_move_by_move(rt: HostRuntime) -> Result<(), Fail> {
+    let moves = [Move::Enter, Move::Enter, Move::Rise, Move::Take];
+    match live(rt.alloc(), &moves) {
+        Ok(life) => {
+            assert_eq!(rt; life.told.len(), 4);
+            assert!(rt; life.told[0].way.is_none());
+            assert!(rt; matches!(life.told[1].way, Some(Way::Displaced)));
+            assert_eq!(rt; life.told[1].who.first, 1);
+            assert!(rt; life.told[2].way.is_none());
+            assert!(rt; matches!(life.told[3].way, Some(Way::Taken)));
+            assert_eq!(rt; life.told[3].who.first, 2);
+            assert!(rt; life.standing.at(Place::Three).is_none());
+            Ok(())
+        }
+        Err(_) => Err(Fail::new("stopped")),
     }
 }

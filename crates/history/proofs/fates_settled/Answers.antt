@@ -4,8 +4,8 @@ use Rattle.history.proofs.ReceivedFates.{received_one_fate, delivered_rising}
 use Rattle.history.proofs.WrittenFates.{written_one_fate, sent_rising}
 use Rattle.history.proofs.fates_settled.Goals as goal
 
-pub returns : goal.returns
-returns c = λ E k. record {
+pub returns-clause-settled : goal.returns-clause-settled
+returns-clause-settled c = λ E k. record {
   one_phase = one_phase E k;
   one_state = one_state E k;
   received_fates = received_one_fate E k;

@@ -1,5 +1,5 @@
 use Rattle.history.proofs.Replaying.{interrupt_shown_lem}
 use Rattle.history.proofs.interrupt_shown.Goals as goal
 
-pub returns : goal.returns
-returns c = interrupt_shown_lem
+pub returns-clause-shown : goal.returns-clause-shown
+returns-clause-shown c = interrupt_shown_lem

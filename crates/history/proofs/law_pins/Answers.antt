@@ -1,5 +1,5 @@
 use Rattle.history.proofs.Pinning.{pinned}
 use Rattle.history.proofs.law_pins.Goals as goal
 
-pub returns : goal.returns
-returns c = pinned
+pub returns-clause-pinned : goal.returns-clause-pinned
+returns-clause-pinned c = pinned

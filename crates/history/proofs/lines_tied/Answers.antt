@@ -1,5 +1,5 @@
 use Rattle.history.proofs.Replaying.{lines_tied_lem}
 use Rattle.history.proofs.lines_tied.Goals as goal
 
-pub returns : goal.returns
-returns c = lines_tied_lem
+pub returns-clause-tied : goal.returns-clause-tied
+returns-clause-tied c = lines_tied_lem
