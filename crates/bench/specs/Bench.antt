@@ -1,11 +1,11 @@
 -- What is done at the bench, and what is seen there, by the definitions that the adapter's calls promise. Assumes nothing.
-use Rattle.std.specs.Prelude.{◌≡◌, ℕ, zero, suc, ◌+◌, ◌*◌, ◌/◌, ◌%◌, ◌^◌, Bool, true, false, cond, ◌&&◌, List, [], ◌∷◌, ◌++◌, Ok, Err, vec_items, fold, Result, Vec, ◌==◌, nat_lt}
-use Rattle.std.specs.Option.{unwrap_or}
+use Rattle.std.specs.Prelude.{◌≡◌, ℕ, zero, suc, ◌+◌, ◌*◌, false, cond, List, [], ◌∷◌, ◌++◌, Ok, Err, vec_items, fold, Result, Vec, nat_lt}
+use Rattle.std.specs.Result.{result_err, result_unwrap_or}
 use Rattle.std.specs.declared.alloc.AllocError.{AllocError}
 use Rattle.std.specs.declared.alloc.Global.{Global}
-use Rattle.serial.specs.Events.{refusal_number}
+use Rattle.serial.specs.Events.{character_events}
 use Rattle.serial.specs.Queue.{standing_at}
-use Rattle.serial.specs.Slips.{receive_number, queue_number, shift_number, quiet_slip}
+use Rattle.serial.specs.Slips.{quiet_slip}
 use Rattle.serial.specs.declared.event.Cycle.TheVariants as cycle
 use Rattle.serial.specs.declared.event.Event.{Event}
 use Rattle.serial.specs.declared.event.Event.TheVariants.{Bus, ReceivedBit, TransmitClock, PinLevel}
@@ -24,8 +24,8 @@ use Rattle.bench.specs.declared.script.Field.{Field}
 use Rattle.bench.specs.declared.script.Field.TheVariants.{First, Second, Third}
 use Rattle.bench.specs.declared.script.Line.{Line}
 use Rattle.bench.specs.declared.script.Line.TheVariants.{Do, Comes}
-use Rattle.bench.specs.declared.script.Look.{Look}
-use Rattle.bench.specs.declared.script.Look.TheVariants as look
+use Rattle.bench.specs.declared.script.Reading.{Reading}
+use Rattle.bench.specs.declared.script.Reading.TheVariants as reading
 
 -- the adapter's state, the answer to the last event, and the bits that the last clocks showed, as a number with the first bit highest
 pub record Seen : Type 0 where
@@ -49,8 +49,7 @@ abbrev pub handed : Seen → Event → Seen
 handed v e = record { state = stepped v.state e; answer = answered v.state e; line = v.line }
 
 abbrev pub reply_in : Result Reply Refusal → Reply
-reply_in (Ok r) = r
-reply_in (Err e) = blank
+reply_in r = result_unwrap_or r blank
 
 -- one more bit on the line; about thirty fit
 abbrev pub with_bit : ℕ → ℕ → ℕ
@@ -67,20 +66,16 @@ abbrev pub clocks : Seen → ℕ → Seen
 clocks v zero = record { state = v.state; answer = v.answer; line = 0 }
 clocks v (suc n) = clocked (clocks v n)
 
-abbrev pub bit_event : ℕ → ℕ → Event
-bit_event b i = ReceivedBit (b / 2 ^ i % 2)
-
--- the lowest n bits of a byte, lowest first
-abbrev pub bits : Seen → ℕ → ℕ → Seen
-bits v b zero = v
-bits v b (suc n) = handed (bits v b n) (bit_event b n)
+-- the eight bits of a character, lowest first
+abbrev pub heard : Seen → ℕ → Seen
+heard v b = fold handed v (character_events b)
 
 abbrev pub did : Seen → Act → Seen
 did v the.Idle = handed v (Bus cycle.Idle)
 did v (the.Read rs) = handed v (Bus (cycle.Read rs))
 did v (the.Write rs b) = handed v (Bus (cycle.Write rs b))
 did v (the.Bit b) = handed v (ReceivedBit b)
-did v (the.Character b) = bits v b 8
+did v (the.Character b) = heard v b
 did v (the.Clocks n) = clocks v n
 did v (the.Pin p l) = handed v (PinLevel p l)
 
@@ -91,28 +86,22 @@ field_of x First = x.first
 field_of x Second = x.second
 field_of x Third = x.third
 
-abbrev pub refusal_in : Result Reply Refusal → ℕ
-refusal_in (Ok r) = 0
-refusal_in (Err e) = refusal_number e
-
-abbrev pub signal : Bool → ℕ
-signal b = cond b 1 0
-
-abbrev pub looked : Seen → Look → ℕ
-looked v look.Byte = (reply_in v.answer).value
-looked v look.Interrupt = signal (reply_in v.answer).interrupt
-looked v look.SmDtr = signal (reply_in v.answer).sm_dtr
-looked v look.Underflow = signal (reply_in v.answer).underflow
-looked v look.ReceiveCode = receive_number (reply_in v.answer).slip.receive
-looked v (look.Received f) = field_of (reply_in v.answer).slip.received f
-looked v look.QueueCode = queue_number (reply_in v.answer).slip.queue
-looked v (look.Queued f) = field_of (reply_in v.answer).slip.queued f
-looked v look.ShiftCode = shift_number (reply_in v.answer).slip.shift
-looked v look.Shifted = (reply_in v.answer).slip.shifted
-looked v look.Refusal = refusal_in v.answer
-looked v look.Line = v.line
-looked v (look.Waiting p) = unwrap_or (standing_at (standing_in v.state).received p) 0
-looked v look.Shifting = unwrap_or (standing_in v.state).shifting 0
+-- what comes now, of the kind of the reading that is given
+abbrev pub looked : Seen → Reading → Reading
+looked v (reading.Byte b) = reading.Byte (reply_in v.answer).value
+looked v (reading.Interrupt b) = reading.Interrupt (reply_in v.answer).interrupt
+looked v (reading.SmDtr b) = reading.SmDtr (reply_in v.answer).sm_dtr
+looked v (reading.Underflow b) = reading.Underflow (reply_in v.answer).underflow
+looked v (reading.Receive c) = reading.Receive (reply_in v.answer).slip.receive
+looked v (reading.Received f n) = reading.Received f (field_of (reply_in v.answer).slip.received f)
+looked v (reading.Queue c) = reading.Queue (reply_in v.answer).slip.queue
+looked v (reading.Queued f n) = reading.Queued f (field_of (reply_in v.answer).slip.queued f)
+looked v (reading.Shift c) = reading.Shift (reply_in v.answer).slip.shift
+looked v (reading.Shifted n) = reading.Shifted (reply_in v.answer).slip.shifted
+looked v (reading.Refusal r) = reading.Refusal (result_err v.answer)
+looked v (reading.Line l) = reading.Line v.line
+looked v (reading.Waiting p n) = reading.Waiting p (standing_at (standing_in v.state).received p)
+looked v (reading.Shifting n) = reading.Shifting (standing_in v.state).shifting
 
 -- A SCRIPT
 
@@ -120,15 +109,9 @@ looked v look.Shifting = unwrap_or (standing_in v.state).shifting 0
 abbrev pub Holds : Seen → List Line → Type 0
 Holds v [] = Unit {0}
 Holds v (Do a ∷ ls) = Holds (did v a) ls
-Holds v (Comes l n ∷ ls) = (looked v l ≡ n) × Holds v ls
+Holds v (Comes r ∷ ls) = (looked v r ≡ r) × Holds v ls
 
--- the same as a test
-abbrev pub test : Seen → List Line → Bool
-test v [] = true
-test v (Do a ∷ ls) = test (did v a) ls
-test v (Comes l n ∷ ls) = looked v l == n && test v ls
-
--- a script under way: what is seen, and what came of each look so far, beside what should come
+-- a script under way: what is seen, and what came at each reading so far, beside what should come
 pub record Notes : Type 0 where
   pub seen : Seen
   pub checks : List Check
@@ -138,7 +121,7 @@ notes_of t = record { seen = seen_at t.bench; checks = vec_items t.checks }
 
 abbrev pub noted : Notes → Line → Notes
 noted n (Do a) = record { seen = did n.seen a; checks = n.checks }
-noted n (Comes l m) = record { seen = n.seen; checks = n.checks ++ record { look = l; came = looked n.seen l; should = m } ∷ [] }
+noted n (Comes r) = record { seen = n.seen; checks = n.checks ++ record { came = looked n.seen r; should = r } ∷ [] }
 
 abbrev pub Follows : Result (Unit {0}) AllocError → Notes → Line → Notes → Type 0
 Follows (Ok x) before line after = after ≡ noted before line
@@ -152,9 +135,6 @@ abbrev pub Played : List Line → Result (Vec Check Global) AllocError → Type 
 Played ls (Ok checks) = vec_items checks ≡ checked_all ls
 Played ls (Err e) = Unit {0}
 
--- all came as they should
-abbrev pub agreeing : Bool → Check → Bool
-agreeing b c = b && c.came == c.should
-
-abbrev pub agree : List Check → Bool
-agree cs = fold agreeing true cs
+-- it came as it should
+abbrev pub Agrees : Check → Type 0
+Agrees c = c.came ≡ c.should

@@ -1,11 +1,11 @@
 // The bench: an adapter, the answer to its last event, and the bits that its last clocks showed.
-ghost use Rattle.std.specs.Prelude.{◌≡◌, ◌<◌};
-ghost use Rattle.bench.specs.Bench.{seen_at, new_seen, blank, handed, reply_in, with_bit, clocked, clocks, bit_event, bits, did, field_of, refusal_in, signal, looked};
+ghost use Rattle.std.specs.Prelude.{◌≡◌};
+ghost use Rattle.bench.specs.Bench.{seen_at, new_seen, handed, reply_in, with_bit, clocked, clocks, heard, did, field_of, looked};
 
-use crate::script::{Act, Field, Look};
+use crate::script::{Act, Field, Reading};
 use serial::event::{Cycle, Event, Refusal};
-use serial::queue::{Numbered, Numbers};
-use serial::slip::{Reply, Slip};
+use serial::queue::Numbers;
+use serial::slip::Reply;
 use ssda::adapter::Adapter;
 
 #[derive(Drop)]
@@ -22,7 +22,7 @@ impl Bench {
     {
         Bench {
             adapter: Adapter::new(),
-            answer: Ok(blank_reply()),
+            answer: Ok(Reply::default()),
             line: 0,
         }
     }
@@ -42,26 +42,32 @@ impl Bench {
         }
     }
 
-    // What came, as a number.
-    pub fn look(&self, look: Look) -> u32
-        ensures { result ≡ looked (seen_at self.now) look }
+    // What comes now, of the kind of the reading that is given.
+    pub fn look(&self, like: Reading) -> Reading
+        ensures { result ≡ looked (seen_at self.now) like }
     {
         let reply = self.reply();
-        match look {
-            Look::Byte => u32::from(reply.value),
-            Look::Interrupt => signal_of(reply.interrupt),
-            Look::SmDtr => signal_of(reply.sm_dtr),
-            Look::Underflow => signal_of(reply.underflow),
-            Look::ReceiveCode => u32::from(reply.slip.receive.number()),
-            Look::Received(field) => field_of(reply.slip.received, field),
-            Look::QueueCode => u32::from(reply.slip.queue.number()),
-            Look::Queued(field) => field_of(reply.slip.queued, field),
-            Look::ShiftCode => u32::from(reply.slip.shift.number()),
-            Look::Shifted => reply.slip.shifted,
-            Look::Refusal => self.refusal(),
-            Look::Line => self.line,
-            Look::Waiting(place) => self.adapter.question().received.at(place).unwrap_or(0),
-            Look::Shifting => self.adapter.question().shifting.unwrap_or(0),
+        match like {
+            Reading::Byte(_) => Reading::Byte(reply.value),
+            Reading::Interrupt(_) => Reading::Interrupt(reply.interrupt),
+            Reading::SmDtr(_) => Reading::SmDtr(reply.sm_dtr),
+            Reading::Underflow(_) => Reading::Underflow(reply.underflow),
+            Reading::Receive(_) => Reading::Receive(reply.slip.receive),
+            Reading::Received(field, _) => Reading::Received(
+                field,
+                field_of(reply.slip.received, field),
+            ),
+            Reading::Queue(_) => Reading::Queue(reply.slip.queue),
+            Reading::Queued(field, _) => Reading::Queued(field, field_of(reply.slip.queued, field)),
+            Reading::Shift(_) => Reading::Shift(reply.slip.shift),
+            Reading::Shifted(_) => Reading::Shifted(reply.slip.shifted),
+            Reading::Refusal(_) => Reading::Refusal(self.answer.err()),
+            Reading::Line(_) => Reading::Line(self.line),
+            Reading::Waiting(place, _) => Reading::Waiting(
+                place,
+                self.adapter.question().received.at(place),
+            ),
+            Reading::Shifting(_) => Reading::Shifting(self.adapter.question().shifting),
         }
     }
 
@@ -69,20 +75,7 @@ impl Bench {
     fn reply(&self) -> Reply
         ensures { result ≡ reply_in (seen_at self.now).answer }
     {
-        match self.answer {
-            Ok(reply) => reply,
-            Err(_) => blank_reply(),
-        }
-    }
-
-    // The number of the last refusal, 0 where the last event was accepted.
-    fn refusal(&self) -> u32
-        ensures { result ≡ refusal_in (seen_at self.now).answer }
-    {
-        match self.answer {
-            Ok(_) => 0,
-            Err(refusal) => u32::from(refusal.number()),
-        }
+        self.answer.unwrap_or_default()
     }
 
     // One event.
@@ -94,10 +87,10 @@ impl Bench {
 
     // The eight bits of a character, lowest first.
     fn receive(&mut self, byte: u8)
-        ensures { seen_at self.new ≡ bits (seen_at self.old) byte 8 }
+        ensures { seen_at self.new ≡ heard (seen_at self.old) byte }
     {
-        for place in 0..8 {
-            self.hand(bit_event(byte, place));
+        for event in &Event::character(byte) {
+            self.hand(*event);
         }
     }
 
@@ -120,14 +113,6 @@ impl Bench {
     }
 }
 
-// The bit of a byte at a place.
-fn bit_event(byte: u8, place: u8) -> Event
-    requires { place < 8 }
-    ensures { result ≡ bit_event byte place }
-{
-    Event::ReceivedBit((byte >> place) % 2)
-}
-
 // The bits so far with one more; about thirty fit.
 fn with_bit(line: u32, bit: u8) -> u32
     ensures { result ≡ with_bit line bit }
@@ -139,18 +124,6 @@ fn with_bit(line: u32, bit: u8) -> u32
     }
 }
 
-fn blank_reply() -> Reply
-    ensures { result ≡ blank }
-{
-    Reply {
-        value: 0,
-        interrupt: false,
-        sm_dtr: false,
-        underflow: false,
-        slip: Slip::quiet(),
-    }
-}
-
 fn field_of(numbers: Numbers, field: Field) -> u32
     ensures { result ≡ field_of numbers field }
 {
@@ -159,10 +132,4 @@ fn field_of(numbers: Numbers, field: Field) -> u32
         Field::Second => numbers.second,
         Field::Third => numbers.third,
     }
-}
-
-fn signal_of(level: bool) -> u32
-    ensures { result ≡ signal level }
-{
-    if level { 1 } else { 0 }
 }

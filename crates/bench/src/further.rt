@@ -1,1364 +1,1378 @@
 // Further examples, each as in the table of specs/.
-ghost use Rattle.std.specs.Prelude.{◌≡◌};
-ghost use Rattle.bench.specs.Further.{overrun_keeps_arriving, overrun_with_empty_places, second_read_repeats, unarmed_overrun_stays, reset_low_holds_error_enable, reset_low_holds_pin_control, reset_low_holds_external, reset_low_writes_the_rest, reset_low_ignores_zero_for_transmitter, reset_falling_tells_all, both_resets_in_one_write, transmitter_reset_tells_three, reset_again_still_clears, last_byte_outlives_resets, two_byte_receive, two_byte_transmit, stripped_without_parity, stripped_with_nine_bits, parity_right_six_odd, parity_wrong_six_even, parity_mark_only_of_place_three, form_longer_in_the_middle, form_shorter_in_the_middle, external_changed_restarts, external_same_goes_on, clear_sync_ignores_bits, dcd_stored_and_level, dcd_rising_drops_arm, dcd_high_ignores_bits, underflow_and_clear, sync_fill_seven_even, word_keeps_length, sent_byte_codes, cts_cuts_shifted_byte, cts_keeps_queue, cts_cuts_loaded_byte, cts_with_external_keeps_tdra, cts_stored_while_reset, sm_dtr_settings, sm_dtr_match_until_next_bit, sm_dtr_match_ends_with_off, receiver_interrupt, transmitter_interrupt, overrun_interrupt, same_reset_level, refused_read_select, refused_read_keeps_arm, refused_write_select, refused_bit, refused_level, refused_pin, refused_pin_before_level};
+ghost use Rattle.std.specs.Prelude.{◌≡◌, map};
+ghost use Rattle.bench.specs.Table.{entry_of, further, FurtherHold};
 
-use crate::script::{Act, Field, Line, Look};
+use crate::script::{Act, Example, Field, Line, Reading};
+use serial::event::Refusal;
 use serial::queue::Place;
+use serial::slip::{QueueCode, ReceiveCode, ShiftCode};
 
 // After an overrun the first two characters and the last one are delivered.
-pub fn overrun_keeps_arriving() -> [Line; 21]
-    ensures { result ≡ overrun_keeps_arriving }
-{
-    [
-        Line::Do(Act::Write { rs: 0, byte: 0x43 }),
-        Line::Do(Act::Write { rs: 1, byte: 0x01 }),
-        Line::Do(Act::Write { rs: 0, byte: 0x03 }),
-        Line::Do(Act::Write { rs: 1, byte: 0x1c }),
-        Line::Do(Act::Write { rs: 0, byte: 0x00 }),
-        Line::Do(Act::Character(0x11)),
-        Line::Do(Act::Idle),
-        Line::Do(Act::Character(0x22)),
-        Line::Do(Act::Idle),
-        Line::Do(Act::Character(0x33)),
-        Line::Do(Act::Character(0x44)),
-        Line::Do(Act::Read { rs: 1 }),
-        Line::Comes(Look::Byte, 0x11),
-        Line::Do(Act::Idle),
-        Line::Do(Act::Read { rs: 1 }),
-        Line::Comes(Look::Byte, 0x22),
-        Line::Do(Act::Idle),
-        Line::Do(Act::Read { rs: 1 }),
-        Line::Comes(Look::Byte, 0x44),
-        Line::Comes(Look::ReceiveCode, 1),
-        Line::Comes(Look::Received(Field::First), 4),
-    ]
-}
+const OVERRUN_KEEPS_ARRIVING: &[Line] = &[
+    Line::Do(Act::Write { rs: 0, byte: 0x43 }),
+    Line::Do(Act::Write { rs: 1, byte: 0x01 }),
+    Line::Do(Act::Write { rs: 0, byte: 0x03 }),
+    Line::Do(Act::Write { rs: 1, byte: 0x1c }),
+    Line::Do(Act::Write { rs: 0, byte: 0x00 }),
+    Line::Do(Act::Character(0x11)),
+    Line::Do(Act::Idle),
+    Line::Do(Act::Character(0x22)),
+    Line::Do(Act::Idle),
+    Line::Do(Act::Character(0x33)),
+    Line::Do(Act::Character(0x44)),
+    Line::Do(Act::Read { rs: 1 }),
+    Line::Comes(Reading::Byte(0x11)),
+    Line::Do(Act::Idle),
+    Line::Do(Act::Read { rs: 1 }),
+    Line::Comes(Reading::Byte(0x22)),
+    Line::Do(Act::Idle),
+    Line::Do(Act::Read { rs: 1 }),
+    Line::Comes(Reading::Byte(0x44)),
+    Line::Comes(Reading::Receive(ReceiveCode::Delivered)),
+    Line::Comes(Reading::Received(Field::First, 4)),
+];
 
 // Overrun comes with place 1 full even while places 2 and 3 are empty.
-pub fn overrun_with_empty_places() -> [Line; 19]
-    ensures { result ≡ overrun_with_empty_places }
-{
-    [
-        Line::Do(Act::Write { rs: 0, byte: 0x43 }),
-        Line::Do(Act::Write { rs: 1, byte: 0x01 }),
-        Line::Do(Act::Write { rs: 0, byte: 0x03 }),
-        Line::Do(Act::Write { rs: 1, byte: 0x1c }),
-        Line::Do(Act::Write { rs: 0, byte: 0x00 }),
-        Line::Do(Act::Character(0x01)),
-        Line::Do(Act::Character(0x02)),
-        Line::Comes(Look::ReceiveCode, 4),
-        Line::Comes(Look::Received(Field::First), 1),
-        Line::Comes(Look::Received(Field::Second), 0),
-        Line::Comes(Look::Waiting(Place::One), 2),
-        Line::Comes(Look::Waiting(Place::Three), 0),
-        Line::Do(Act::Read { rs: 0 }),
-        Line::Comes(Look::Byte, 0x22),
-        Line::Do(Act::Read { rs: 1 }),
-        Line::Comes(Look::Byte, 0x00),
-        Line::Comes(Look::ReceiveCode, 0),
-        Line::Do(Act::Read { rs: 0 }),
-        Line::Comes(Look::Byte, 0x02),
-    ]
-}
+const OVERRUN_WITH_EMPTY_PLACES: &[Line] = &[
+    Line::Do(Act::Write { rs: 0, byte: 0x43 }),
+    Line::Do(Act::Write { rs: 1, byte: 0x01 }),
+    Line::Do(Act::Write { rs: 0, byte: 0x03 }),
+    Line::Do(Act::Write { rs: 1, byte: 0x1c }),
+    Line::Do(Act::Write { rs: 0, byte: 0x00 }),
+    Line::Do(Act::Character(0x01)),
+    Line::Do(Act::Character(0x02)),
+    Line::Comes(Reading::Receive(ReceiveCode::Lost)),
+    Line::Comes(Reading::Received(Field::First, 1)),
+    Line::Comes(Reading::Received(Field::Second, 0)),
+    Line::Comes(Reading::Waiting(Place::One, Some(2))),
+    Line::Comes(Reading::Waiting(Place::Three, None)),
+    Line::Do(Act::Read { rs: 0 }),
+    Line::Comes(Reading::Byte(0x22)),
+    Line::Do(Act::Read { rs: 1 }),
+    Line::Comes(Reading::Byte(0x00)),
+    Line::Comes(Reading::Receive(ReceiveCode::Nothing)),
+    Line::Do(Act::Read { rs: 0 }),
+    Line::Comes(Reading::Byte(0x02)),
+];
 
 // A second data read without an idle cycle repeats the last byte.
-pub fn second_read_repeats() -> [Line; 21]
-    ensures { result ≡ second_read_repeats }
-{
-    [
-        Line::Do(Act::Write { rs: 0, byte: 0x43 }),
-        Line::Do(Act::Write { rs: 1, byte: 0x01 }),
-        Line::Do(Act::Write { rs: 0, byte: 0x03 }),
-        Line::Do(Act::Write { rs: 1, byte: 0x1c }),
-        Line::Do(Act::Write { rs: 0, byte: 0x00 }),
-        Line::Do(Act::Character(0xa5)),
-        Line::Do(Act::Idle),
-        Line::Do(Act::Character(0x5a)),
-        Line::Do(Act::Idle),
-        Line::Do(Act::Read { rs: 1 }),
-        Line::Comes(Look::Byte, 0xa5),
-        Line::Comes(Look::ReceiveCode, 1),
-        Line::Comes(Look::Received(Field::First), 1),
-        Line::Do(Act::Read { rs: 1 }),
-        Line::Comes(Look::Byte, 0xa5),
-        Line::Comes(Look::ReceiveCode, 0),
-        Line::Comes(Look::Waiting(Place::Two), 2),
-        Line::Do(Act::Idle),
-        Line::Do(Act::Read { rs: 1 }),
-        Line::Comes(Look::Byte, 0x5a),
-        Line::Comes(Look::Received(Field::First), 2),
-    ]
-}
+const SECOND_READ_REPEATS: &[Line] = &[
+    Line::Do(Act::Write { rs: 0, byte: 0x43 }),
+    Line::Do(Act::Write { rs: 1, byte: 0x01 }),
+    Line::Do(Act::Write { rs: 0, byte: 0x03 }),
+    Line::Do(Act::Write { rs: 1, byte: 0x1c }),
+    Line::Do(Act::Write { rs: 0, byte: 0x00 }),
+    Line::Do(Act::Character(0xa5)),
+    Line::Do(Act::Idle),
+    Line::Do(Act::Character(0x5a)),
+    Line::Do(Act::Idle),
+    Line::Do(Act::Read { rs: 1 }),
+    Line::Comes(Reading::Byte(0xa5)),
+    Line::Comes(Reading::Receive(ReceiveCode::Delivered)),
+    Line::Comes(Reading::Received(Field::First, 1)),
+    Line::Do(Act::Read { rs: 1 }),
+    Line::Comes(Reading::Byte(0xa5)),
+    Line::Comes(Reading::Receive(ReceiveCode::Nothing)),
+    Line::Comes(Reading::Waiting(Place::Two, Some(2))),
+    Line::Do(Act::Idle),
+    Line::Do(Act::Read { rs: 1 }),
+    Line::Comes(Reading::Byte(0x5a)),
+    Line::Comes(Reading::Received(Field::First, 2)),
+];
 
 // A data read without a Status read before it clears no overrun.
-pub fn unarmed_overrun_stays() -> [Line; 18]
-    ensures { result ≡ unarmed_overrun_stays }
-{
-    [
-        Line::Do(Act::Write { rs: 0, byte: 0x43 }),
-        Line::Do(Act::Write { rs: 1, byte: 0x01 }),
-        Line::Do(Act::Write { rs: 0, byte: 0x03 }),
-        Line::Do(Act::Write { rs: 1, byte: 0x1c }),
-        Line::Do(Act::Write { rs: 0, byte: 0x00 }),
-        Line::Do(Act::Character(0x01)),
-        Line::Do(Act::Character(0x02)),
-        Line::Do(Act::Idle),
-        Line::Do(Act::Read { rs: 1 }),
-        Line::Comes(Look::Byte, 0x02),
-        Line::Comes(Look::Received(Field::First), 2),
-        Line::Do(Act::Read { rs: 0 }),
-        Line::Comes(Look::Byte, 0x22),
-        Line::Do(Act::Read { rs: 1 }),
-        Line::Comes(Look::Byte, 0x02),
-        Line::Comes(Look::ReceiveCode, 0),
-        Line::Do(Act::Read { rs: 0 }),
-        Line::Comes(Look::Byte, 0x02),
-    ]
-}
+const UNARMED_OVERRUN_STAYS: &[Line] = &[
+    Line::Do(Act::Write { rs: 0, byte: 0x43 }),
+    Line::Do(Act::Write { rs: 1, byte: 0x01 }),
+    Line::Do(Act::Write { rs: 0, byte: 0x03 }),
+    Line::Do(Act::Write { rs: 1, byte: 0x1c }),
+    Line::Do(Act::Write { rs: 0, byte: 0x00 }),
+    Line::Do(Act::Character(0x01)),
+    Line::Do(Act::Character(0x02)),
+    Line::Do(Act::Idle),
+    Line::Do(Act::Read { rs: 1 }),
+    Line::Comes(Reading::Byte(0x02)),
+    Line::Comes(Reading::Received(Field::First, 2)),
+    Line::Do(Act::Read { rs: 0 }),
+    Line::Comes(Reading::Byte(0x22)),
+    Line::Do(Act::Read { rs: 1 }),
+    Line::Comes(Reading::Byte(0x02)),
+    Line::Comes(Reading::Receive(ReceiveCode::Nothing)),
+    Line::Do(Act::Read { rs: 0 }),
+    Line::Comes(Reading::Byte(0x02)),
+];
 
 // While RESET is low EIE stays 0, whatever is written.
-pub fn reset_low_holds_error_enable() -> [Line; 12]
-    ensures { result ≡ reset_low_holds_error_enable }
-{
-    [
-        Line::Do(Act::Pin { pin: 0, level: 0 }),
-        Line::Do(Act::Write { rs: 1, byte: 0x80 }),
-        Line::Do(Act::Pin { pin: 1, level: 1 }),
-        Line::Comes(Look::Interrupt, 0),
-        Line::Do(Act::Read { rs: 0 }),
-        Line::Comes(Look::Byte, 0x08),
-        Line::Do(Act::Pin { pin: 0, level: 1 }),
-        Line::Comes(Look::Interrupt, 0),
-        Line::Do(Act::Write { rs: 1, byte: 0x80 }),
-        Line::Comes(Look::Interrupt, 1),
-        Line::Do(Act::Read { rs: 0 }),
-        Line::Comes(Look::Byte, 0x88),
-    ]
-}
+const RESET_LOW_HOLDS_ERROR_ENABLE: &[Line] = &[
+    Line::Do(Act::Pin { pin: 0, level: 0 }),
+    Line::Do(Act::Write { rs: 1, byte: 0x80 }),
+    Line::Do(Act::Pin { pin: 1, level: 1 }),
+    Line::Comes(Reading::Interrupt(false)),
+    Line::Do(Act::Read { rs: 0 }),
+    Line::Comes(Reading::Byte(0x08)),
+    Line::Do(Act::Pin { pin: 0, level: 1 }),
+    Line::Comes(Reading::Interrupt(false)),
+    Line::Do(Act::Write { rs: 1, byte: 0x80 }),
+    Line::Comes(Reading::Interrupt(true)),
+    Line::Do(Act::Read { rs: 0 }),
+    Line::Comes(Reading::Byte(0x88)),
+];
 
 // While RESET is low PC1 and PC2 stay 0, so SM/DTR is high.
-pub fn reset_low_holds_pin_control() -> [Line; 12]
-    ensures { result ≡ reset_low_holds_pin_control }
-{
-    [
-        Line::Do(Act::Write { rs: 1, byte: 0x03 }),
-        Line::Comes(Look::SmDtr, 0),
-        Line::Do(Act::Pin { pin: 0, level: 0 }),
-        Line::Comes(Look::SmDtr, 1),
-        Line::Do(Act::Write { rs: 1, byte: 0x03 }),
-        Line::Comes(Look::SmDtr, 1),
-        Line::Do(Act::Write { rs: 1, byte: 0x01 }),
-        Line::Comes(Look::SmDtr, 1),
-        Line::Do(Act::Pin { pin: 0, level: 1 }),
-        Line::Comes(Look::SmDtr, 1),
-        Line::Do(Act::Write { rs: 1, byte: 0x01 }),
-        Line::Comes(Look::SmDtr, 0),
-    ]
-}
+const RESET_LOW_HOLDS_PIN_CONTROL: &[Line] = &[
+    Line::Do(Act::Write { rs: 1, byte: 0x03 }),
+    Line::Comes(Reading::SmDtr(false)),
+    Line::Do(Act::Pin { pin: 0, level: 0 }),
+    Line::Comes(Reading::SmDtr(true)),
+    Line::Do(Act::Write { rs: 1, byte: 0x03 }),
+    Line::Comes(Reading::SmDtr(true)),
+    Line::Do(Act::Write { rs: 1, byte: 0x01 }),
+    Line::Comes(Reading::SmDtr(true)),
+    Line::Do(Act::Pin { pin: 0, level: 1 }),
+    Line::Comes(Reading::SmDtr(true)),
+    Line::Do(Act::Write { rs: 1, byte: 0x01 }),
+    Line::Comes(Reading::SmDtr(false)),
+];
 
 // While RESET is low external stays 0.
-pub fn reset_low_holds_external() -> [Line; 11]
-    ensures { result ≡ reset_low_holds_external }
-{
-    [
-        Line::Do(Act::Pin { pin: 0, level: 0 }),
-        Line::Do(Act::Write { rs: 1, byte: 0x1c }),
-        Line::Do(Act::Write { rs: 0, byte: 0x40 }),
-        Line::Do(Act::Write { rs: 1, byte: 0x01 }),
-        Line::Do(Act::Pin { pin: 0, level: 1 }),
-        Line::Do(Act::Write { rs: 0, byte: 0x40 }),
-        Line::Do(Act::Character(0xff)),
-        Line::Comes(Look::Waiting(Place::One), 0),
-        Line::Do(Act::Write { rs: 1, byte: 0x01 }),
-        Line::Do(Act::Character(0xff)),
-        Line::Comes(Look::Waiting(Place::One), 1),
-    ]
-}
+const RESET_LOW_HOLDS_EXTERNAL: &[Line] = &[
+    Line::Do(Act::Pin { pin: 0, level: 0 }),
+    Line::Do(Act::Write { rs: 1, byte: 0x1c }),
+    Line::Do(Act::Write { rs: 0, byte: 0x40 }),
+    Line::Do(Act::Write { rs: 1, byte: 0x01 }),
+    Line::Do(Act::Pin { pin: 0, level: 1 }),
+    Line::Do(Act::Write { rs: 0, byte: 0x40 }),
+    Line::Do(Act::Character(0xff)),
+    Line::Comes(Reading::Waiting(Place::One, None)),
+    Line::Do(Act::Write { rs: 1, byte: 0x01 }),
+    Line::Do(Act::Character(0xff)),
+    Line::Comes(Reading::Waiting(Place::One, Some(1))),
+];
 
 // While RESET is low the sync code, Tx Sync and the form are written as ever.
-pub fn reset_low_writes_the_rest() -> [Line; 13]
-    ensures { result ≡ reset_low_writes_the_rest }
-{
-    [
-        Line::Do(Act::Pin { pin: 0, level: 0 }),
-        Line::Do(Act::Write { rs: 0, byte: 0x80 }),
-        Line::Do(Act::Write { rs: 1, byte: 0x16 }),
-        Line::Do(Act::Write { rs: 0, byte: 0x00 }),
-        Line::Do(Act::Write { rs: 1, byte: 0x5c }),
-        Line::Do(Act::Pin { pin: 0, level: 1 }),
-        Line::Do(Act::Write { rs: 0, byte: 0x00 }),
-        Line::Do(Act::Clocks(9)),
-        Line::Comes(Look::Line, 360),
-        Line::Comes(Look::Underflow, 1),
-        Line::Comes(Look::ShiftCode, 0),
-        Line::Do(Act::Read { rs: 0 }),
-        Line::Comes(Look::Byte, 0x12),
-    ]
-}
+const RESET_LOW_WRITES_THE_REST: &[Line] = &[
+    Line::Do(Act::Pin { pin: 0, level: 0 }),
+    Line::Do(Act::Write { rs: 0, byte: 0x80 }),
+    Line::Do(Act::Write { rs: 1, byte: 0x16 }),
+    Line::Do(Act::Write { rs: 0, byte: 0x00 }),
+    Line::Do(Act::Write { rs: 1, byte: 0x5c }),
+    Line::Do(Act::Pin { pin: 0, level: 1 }),
+    Line::Do(Act::Write { rs: 0, byte: 0x00 }),
+    Line::Do(Act::Clocks(9)),
+    Line::Comes(Reading::Line(0b101101000)),
+    Line::Comes(Reading::Underflow(true)),
+    Line::Comes(Reading::Shift(ShiftCode::Nothing)),
+    Line::Do(Act::Read { rs: 0 }),
+    Line::Comes(Reading::Byte(0x12)),
+];
 
 // While RESET is low a 0 written to Tx Rs empties nothing and a 1 empties.
-pub fn reset_low_ignores_zero_for_transmitter() -> [Line; 14]
-    ensures { result ≡ reset_low_ignores_zero_for_transmitter }
-{
-    [
-        Line::Do(Act::Pin { pin: 0, level: 0 }),
-        Line::Do(Act::Write { rs: 0, byte: 0xc0 }),
-        Line::Do(Act::Write { rs: 1, byte: 0x55 }),
-        Line::Comes(Look::QueueCode, 0),
-        Line::Do(Act::Write { rs: 0, byte: 0xc0 }),
-        Line::Comes(Look::QueueCode, 0),
-        Line::Comes(Look::Queued(Field::First), 0),
-        Line::Do(Act::Write { rs: 0, byte: 0xc2 }),
-        Line::Comes(Look::QueueCode, 2),
-        Line::Comes(Look::Queued(Field::First), 1),
-        Line::Comes(Look::ReceiveCode, 0),
-        Line::Do(Act::Write { rs: 0, byte: 0xc2 }),
-        Line::Comes(Look::QueueCode, 0),
-        Line::Comes(Look::Queued(Field::First), 0),
-    ]
-}
+const RESET_LOW_IGNORES_ZERO_FOR_TRANSMITTER: &[Line] = &[
+    Line::Do(Act::Pin { pin: 0, level: 0 }),
+    Line::Do(Act::Write { rs: 0, byte: 0xc0 }),
+    Line::Do(Act::Write { rs: 1, byte: 0x55 }),
+    Line::Comes(Reading::Queue(QueueCode::Nothing)),
+    Line::Do(Act::Write { rs: 0, byte: 0xc0 }),
+    Line::Comes(Reading::Queue(QueueCode::Nothing)),
+    Line::Comes(Reading::Queued(Field::First, 0)),
+    Line::Do(Act::Write { rs: 0, byte: 0xc2 }),
+    Line::Comes(Reading::Queue(QueueCode::Cleared)),
+    Line::Comes(Reading::Queued(Field::First, 1)),
+    Line::Comes(Reading::Receive(ReceiveCode::Nothing)),
+    Line::Do(Act::Write { rs: 0, byte: 0xc2 }),
+    Line::Comes(Reading::Queue(QueueCode::Nothing)),
+    Line::Comes(Reading::Queued(Field::First, 0)),
+];
 
 // RESET falling tells received, queued and shifted numbers together.
-pub fn reset_falling_tells_all() -> [Line; 22]
-    ensures { result ≡ reset_falling_tells_all }
-{
-    [
-        Line::Do(Act::Write { rs: 0, byte: 0x43 }),
-        Line::Do(Act::Write { rs: 1, byte: 0x01 }),
-        Line::Do(Act::Write { rs: 0, byte: 0x03 }),
-        Line::Do(Act::Write { rs: 1, byte: 0x1c }),
-        Line::Do(Act::Write { rs: 0, byte: 0xc0 }),
-        Line::Do(Act::Write { rs: 1, byte: 0x01 }),
-        Line::Do(Act::Idle),
-        Line::Do(Act::Write { rs: 1, byte: 0x02 }),
-        Line::Do(Act::Clocks(1)),
-        Line::Do(Act::Character(0x41)),
-        Line::Do(Act::Idle),
-        Line::Do(Act::Character(0x42)),
-        Line::Do(Act::Write { rs: 1, byte: 0x03 }),
-        Line::Do(Act::Pin { pin: 0, level: 0 }),
-        Line::Comes(Look::ReceiveCode, 5),
-        Line::Comes(Look::Received(Field::First), 1),
-        Line::Comes(Look::Received(Field::Second), 2),
-        Line::Comes(Look::QueueCode, 2),
-        Line::Comes(Look::Queued(Field::First), 2),
-        Line::Comes(Look::Queued(Field::Second), 3),
-        Line::Comes(Look::ShiftCode, 3),
-        Line::Comes(Look::Shifted, 1),
-    ]
-}
+const RESET_FALLING_TELLS_ALL: &[Line] = &[
+    Line::Do(Act::Write { rs: 0, byte: 0x43 }),
+    Line::Do(Act::Write { rs: 1, byte: 0x01 }),
+    Line::Do(Act::Write { rs: 0, byte: 0x03 }),
+    Line::Do(Act::Write { rs: 1, byte: 0x1c }),
+    Line::Do(Act::Write { rs: 0, byte: 0xc0 }),
+    Line::Do(Act::Write { rs: 1, byte: 0x01 }),
+    Line::Do(Act::Idle),
+    Line::Do(Act::Write { rs: 1, byte: 0x02 }),
+    Line::Do(Act::Clocks(1)),
+    Line::Do(Act::Character(0x41)),
+    Line::Do(Act::Idle),
+    Line::Do(Act::Character(0x42)),
+    Line::Do(Act::Write { rs: 1, byte: 0x03 }),
+    Line::Do(Act::Pin { pin: 0, level: 0 }),
+    Line::Comes(Reading::Receive(ReceiveCode::Cleared)),
+    Line::Comes(Reading::Received(Field::First, 1)),
+    Line::Comes(Reading::Received(Field::Second, 2)),
+    Line::Comes(Reading::Queue(QueueCode::Cleared)),
+    Line::Comes(Reading::Queued(Field::First, 2)),
+    Line::Comes(Reading::Queued(Field::Second, 3)),
+    Line::Comes(Reading::Shift(ShiftCode::Cut)),
+    Line::Comes(Reading::Shifted(1)),
+];
 
 // One write resets the receiver and the transmitter.
-pub fn both_resets_in_one_write() -> [Line; 21]
-    ensures { result ≡ both_resets_in_one_write }
-{
-    [
-        Line::Do(Act::Write { rs: 0, byte: 0x43 }),
-        Line::Do(Act::Write { rs: 1, byte: 0x01 }),
-        Line::Do(Act::Write { rs: 0, byte: 0x03 }),
-        Line::Do(Act::Write { rs: 1, byte: 0x1c }),
-        Line::Do(Act::Write { rs: 0, byte: 0xc0 }),
-        Line::Do(Act::Character(0x41)),
-        Line::Do(Act::Write { rs: 1, byte: 0x55 }),
-        Line::Do(Act::Idle),
-        Line::Do(Act::Write { rs: 1, byte: 0x56 }),
-        Line::Do(Act::Clocks(2)),
-        Line::Do(Act::Write { rs: 0, byte: 0xc3 }),
-        Line::Comes(Look::ReceiveCode, 5),
-        Line::Comes(Look::Received(Field::First), 1),
-        Line::Comes(Look::Received(Field::Second), 0),
-        Line::Comes(Look::QueueCode, 2),
-        Line::Comes(Look::Queued(Field::First), 2),
-        Line::Comes(Look::Queued(Field::Second), 0),
-        Line::Comes(Look::ShiftCode, 3),
-        Line::Comes(Look::Shifted, 1),
-        Line::Do(Act::Read { rs: 0 }),
-        Line::Comes(Look::Byte, 0x00),
-    ]
-}
+const BOTH_RESETS_IN_ONE_WRITE: &[Line] = &[
+    Line::Do(Act::Write { rs: 0, byte: 0x43 }),
+    Line::Do(Act::Write { rs: 1, byte: 0x01 }),
+    Line::Do(Act::Write { rs: 0, byte: 0x03 }),
+    Line::Do(Act::Write { rs: 1, byte: 0x1c }),
+    Line::Do(Act::Write { rs: 0, byte: 0xc0 }),
+    Line::Do(Act::Character(0x41)),
+    Line::Do(Act::Write { rs: 1, byte: 0x55 }),
+    Line::Do(Act::Idle),
+    Line::Do(Act::Write { rs: 1, byte: 0x56 }),
+    Line::Do(Act::Clocks(2)),
+    Line::Do(Act::Write { rs: 0, byte: 0xc3 }),
+    Line::Comes(Reading::Receive(ReceiveCode::Cleared)),
+    Line::Comes(Reading::Received(Field::First, 1)),
+    Line::Comes(Reading::Received(Field::Second, 0)),
+    Line::Comes(Reading::Queue(QueueCode::Cleared)),
+    Line::Comes(Reading::Queued(Field::First, 2)),
+    Line::Comes(Reading::Queued(Field::Second, 0)),
+    Line::Comes(Reading::Shift(ShiftCode::Cut)),
+    Line::Comes(Reading::Shifted(1)),
+    Line::Do(Act::Read { rs: 0 }),
+    Line::Comes(Reading::Byte(0x00)),
+];
 
 // A transmitter reset clears three waiting bytes, oldest first.
-pub fn transmitter_reset_tells_three() -> [Line; 19]
-    ensures { result ≡ transmitter_reset_tells_three }
-{
-    [
-        Line::Do(Act::Write { rs: 0, byte: 0x43 }),
-        Line::Do(Act::Write { rs: 1, byte: 0x01 }),
-        Line::Do(Act::Write { rs: 0, byte: 0x03 }),
-        Line::Do(Act::Write { rs: 1, byte: 0x1c }),
-        Line::Do(Act::Write { rs: 0, byte: 0xc0 }),
-        Line::Do(Act::Write { rs: 1, byte: 0xa1 }),
-        Line::Do(Act::Idle),
-        Line::Do(Act::Write { rs: 1, byte: 0xa2 }),
-        Line::Do(Act::Idle),
-        Line::Do(Act::Write { rs: 1, byte: 0xa3 }),
-        Line::Do(Act::Write { rs: 0, byte: 0xc2 }),
-        Line::Comes(Look::QueueCode, 2),
-        Line::Comes(Look::Queued(Field::First), 1),
-        Line::Comes(Look::Queued(Field::Second), 2),
-        Line::Comes(Look::Queued(Field::Third), 3),
-        Line::Comes(Look::ShiftCode, 0),
-        Line::Comes(Look::ReceiveCode, 0),
-        Line::Do(Act::Read { rs: 0 }),
-        Line::Comes(Look::Byte, 0x00),
-    ]
-}
+const TRANSMITTER_RESET_TELLS_THREE: &[Line] = &[
+    Line::Do(Act::Write { rs: 0, byte: 0x43 }),
+    Line::Do(Act::Write { rs: 1, byte: 0x01 }),
+    Line::Do(Act::Write { rs: 0, byte: 0x03 }),
+    Line::Do(Act::Write { rs: 1, byte: 0x1c }),
+    Line::Do(Act::Write { rs: 0, byte: 0xc0 }),
+    Line::Do(Act::Write { rs: 1, byte: 0xa1 }),
+    Line::Do(Act::Idle),
+    Line::Do(Act::Write { rs: 1, byte: 0xa2 }),
+    Line::Do(Act::Idle),
+    Line::Do(Act::Write { rs: 1, byte: 0xa3 }),
+    Line::Do(Act::Write { rs: 0, byte: 0xc2 }),
+    Line::Comes(Reading::Queue(QueueCode::Cleared)),
+    Line::Comes(Reading::Queued(Field::First, 1)),
+    Line::Comes(Reading::Queued(Field::Second, 2)),
+    Line::Comes(Reading::Queued(Field::Third, 3)),
+    Line::Comes(Reading::Shift(ShiftCode::Nothing)),
+    Line::Comes(Reading::Receive(ReceiveCode::Nothing)),
+    Line::Do(Act::Read { rs: 0 }),
+    Line::Comes(Reading::Byte(0x00)),
+];
 
 // Writing a reset bit as 1 resets also when it was set already.
-pub fn reset_again_still_clears() -> [Line; 14]
-    ensures { result ≡ reset_again_still_clears }
-{
-    [
-        Line::Do(Act::Write { rs: 0, byte: 0xc3 }),
-        Line::Do(Act::Write { rs: 1, byte: 0x55 }),
-        Line::Comes(Look::QueueCode, 0),
-        Line::Do(Act::Write { rs: 0, byte: 0xc3 }),
-        Line::Comes(Look::QueueCode, 2),
-        Line::Comes(Look::Queued(Field::First), 1),
-        Line::Do(Act::Pin { pin: 2, level: 1 }),
-        Line::Do(Act::Pin { pin: 2, level: 0 }),
-        Line::Do(Act::Read { rs: 0 }),
-        Line::Comes(Look::Byte, 0x04),
-        Line::Do(Act::Write { rs: 0, byte: 0xc3 }),
-        Line::Comes(Look::QueueCode, 0),
-        Line::Do(Act::Read { rs: 0 }),
-        Line::Comes(Look::Byte, 0x00),
-    ]
-}
+const RESET_AGAIN_STILL_CLEARS: &[Line] = &[
+    Line::Do(Act::Write { rs: 0, byte: 0xc3 }),
+    Line::Do(Act::Write { rs: 1, byte: 0x55 }),
+    Line::Comes(Reading::Queue(QueueCode::Nothing)),
+    Line::Do(Act::Write { rs: 0, byte: 0xc3 }),
+    Line::Comes(Reading::Queue(QueueCode::Cleared)),
+    Line::Comes(Reading::Queued(Field::First, 1)),
+    Line::Do(Act::Pin { pin: 2, level: 1 }),
+    Line::Do(Act::Pin { pin: 2, level: 0 }),
+    Line::Do(Act::Read { rs: 0 }),
+    Line::Comes(Reading::Byte(0x04)),
+    Line::Do(Act::Write { rs: 0, byte: 0xc3 }),
+    Line::Comes(Reading::Queue(QueueCode::Nothing)),
+    Line::Do(Act::Read { rs: 0 }),
+    Line::Comes(Reading::Byte(0x00)),
+];
 
 // The last byte taken outlives a receiver reset and RESET.
-pub fn last_byte_outlives_resets() -> [Line; 20]
-    ensures { result ≡ last_byte_outlives_resets }
-{
-    [
-        Line::Do(Act::Write { rs: 0, byte: 0x43 }),
-        Line::Do(Act::Write { rs: 1, byte: 0x01 }),
-        Line::Do(Act::Write { rs: 0, byte: 0x03 }),
-        Line::Do(Act::Write { rs: 1, byte: 0x1c }),
-        Line::Do(Act::Write { rs: 0, byte: 0x00 }),
-        Line::Do(Act::Character(0xa7)),
-        Line::Do(Act::Idle),
-        Line::Do(Act::Read { rs: 1 }),
-        Line::Comes(Look::Byte, 0xa7),
-        Line::Do(Act::Character(0xb8)),
-        Line::Do(Act::Idle),
-        Line::Do(Act::Write { rs: 0, byte: 0x03 }),
-        Line::Comes(Look::ReceiveCode, 5),
-        Line::Comes(Look::Received(Field::First), 2),
-        Line::Do(Act::Read { rs: 1 }),
-        Line::Comes(Look::Byte, 0xa7),
-        Line::Comes(Look::ReceiveCode, 0),
-        Line::Do(Act::Pin { pin: 0, level: 0 }),
-        Line::Do(Act::Read { rs: 1 }),
-        Line::Comes(Look::Byte, 0xa7),
-    ]
-}
+const LAST_BYTE_OUTLIVES_RESETS: &[Line] = &[
+    Line::Do(Act::Write { rs: 0, byte: 0x43 }),
+    Line::Do(Act::Write { rs: 1, byte: 0x01 }),
+    Line::Do(Act::Write { rs: 0, byte: 0x03 }),
+    Line::Do(Act::Write { rs: 1, byte: 0x1c }),
+    Line::Do(Act::Write { rs: 0, byte: 0x00 }),
+    Line::Do(Act::Character(0xa7)),
+    Line::Do(Act::Idle),
+    Line::Do(Act::Read { rs: 1 }),
+    Line::Comes(Reading::Byte(0xa7)),
+    Line::Do(Act::Character(0xb8)),
+    Line::Do(Act::Idle),
+    Line::Do(Act::Write { rs: 0, byte: 0x03 }),
+    Line::Comes(Reading::Receive(ReceiveCode::Cleared)),
+    Line::Comes(Reading::Received(Field::First, 2)),
+    Line::Do(Act::Read { rs: 1 }),
+    Line::Comes(Reading::Byte(0xa7)),
+    Line::Comes(Reading::Receive(ReceiveCode::Nothing)),
+    Line::Do(Act::Pin { pin: 0, level: 0 }),
+    Line::Do(Act::Read { rs: 1 }),
+    Line::Comes(Reading::Byte(0xa7)),
+];
 
 // In two-byte mode RDA needs places 2 and 3 full.
-pub fn two_byte_receive() -> [Line; 22]
-    ensures { result ≡ two_byte_receive }
-{
-    [
-        Line::Do(Act::Write { rs: 0, byte: 0x43 }),
-        Line::Do(Act::Write { rs: 1, byte: 0x01 }),
-        Line::Do(Act::Write { rs: 0, byte: 0x03 }),
-        Line::Do(Act::Write { rs: 1, byte: 0x18 }),
-        Line::Do(Act::Write { rs: 0, byte: 0x00 }),
-        Line::Do(Act::Character(0x11)),
-        Line::Do(Act::Idle),
-        Line::Do(Act::Read { rs: 0 }),
-        Line::Comes(Look::Byte, 0x02),
-        Line::Do(Act::Character(0x22)),
-        Line::Do(Act::Read { rs: 0 }),
-        Line::Comes(Look::Byte, 0x02),
-        Line::Do(Act::Idle),
-        Line::Do(Act::Read { rs: 0 }),
-        Line::Comes(Look::Byte, 0x03),
-        Line::Do(Act::Read { rs: 1 }),
-        Line::Comes(Look::Byte, 0x11),
-        Line::Do(Act::Read { rs: 0 }),
-        Line::Comes(Look::Byte, 0x02),
-        Line::Do(Act::Idle),
-        Line::Do(Act::Read { rs: 0 }),
-        Line::Comes(Look::Byte, 0x02),
-    ]
-}
+const TWO_BYTE_RECEIVE: &[Line] = &[
+    Line::Do(Act::Write { rs: 0, byte: 0x43 }),
+    Line::Do(Act::Write { rs: 1, byte: 0x01 }),
+    Line::Do(Act::Write { rs: 0, byte: 0x03 }),
+    Line::Do(Act::Write { rs: 1, byte: 0x18 }),
+    Line::Do(Act::Write { rs: 0, byte: 0x00 }),
+    Line::Do(Act::Character(0x11)),
+    Line::Do(Act::Idle),
+    Line::Do(Act::Read { rs: 0 }),
+    Line::Comes(Reading::Byte(0x02)),
+    Line::Do(Act::Character(0x22)),
+    Line::Do(Act::Read { rs: 0 }),
+    Line::Comes(Reading::Byte(0x02)),
+    Line::Do(Act::Idle),
+    Line::Do(Act::Read { rs: 0 }),
+    Line::Comes(Reading::Byte(0x03)),
+    Line::Do(Act::Read { rs: 1 }),
+    Line::Comes(Reading::Byte(0x11)),
+    Line::Do(Act::Read { rs: 0 }),
+    Line::Comes(Reading::Byte(0x02)),
+    Line::Do(Act::Idle),
+    Line::Do(Act::Read { rs: 0 }),
+    Line::Comes(Reading::Byte(0x02)),
+];
 
 // In two-byte mode TDRA needs places 1 and 2 empty.
-pub fn two_byte_transmit() -> [Line; 21]
-    ensures { result ≡ two_byte_transmit }
-{
-    [
-        Line::Do(Act::Write { rs: 0, byte: 0x43 }),
-        Line::Do(Act::Write { rs: 1, byte: 0x01 }),
-        Line::Do(Act::Write { rs: 0, byte: 0x03 }),
-        Line::Do(Act::Write { rs: 1, byte: 0x18 }),
-        Line::Do(Act::Write { rs: 0, byte: 0xc0 }),
-        Line::Do(Act::Read { rs: 0 }),
-        Line::Comes(Look::Byte, 0x02),
-        Line::Do(Act::Write { rs: 1, byte: 0xa1 }),
-        Line::Do(Act::Read { rs: 0 }),
-        Line::Comes(Look::Byte, 0x00),
-        Line::Do(Act::Idle),
-        Line::Do(Act::Read { rs: 0 }),
-        Line::Comes(Look::Byte, 0x02),
-        Line::Do(Act::Write { rs: 1, byte: 0xa2 }),
-        Line::Do(Act::Idle),
-        Line::Do(Act::Read { rs: 0 }),
-        Line::Comes(Look::Byte, 0x00),
-        Line::Do(Act::Clocks(1)),
-        Line::Do(Act::Idle),
-        Line::Do(Act::Read { rs: 0 }),
-        Line::Comes(Look::Byte, 0x02),
-    ]
-}
+const TWO_BYTE_TRANSMIT: &[Line] = &[
+    Line::Do(Act::Write { rs: 0, byte: 0x43 }),
+    Line::Do(Act::Write { rs: 1, byte: 0x01 }),
+    Line::Do(Act::Write { rs: 0, byte: 0x03 }),
+    Line::Do(Act::Write { rs: 1, byte: 0x18 }),
+    Line::Do(Act::Write { rs: 0, byte: 0xc0 }),
+    Line::Do(Act::Read { rs: 0 }),
+    Line::Comes(Reading::Byte(0x02)),
+    Line::Do(Act::Write { rs: 1, byte: 0xa1 }),
+    Line::Do(Act::Read { rs: 0 }),
+    Line::Comes(Reading::Byte(0x00)),
+    Line::Do(Act::Idle),
+    Line::Do(Act::Read { rs: 0 }),
+    Line::Comes(Reading::Byte(0x02)),
+    Line::Do(Act::Write { rs: 1, byte: 0xa2 }),
+    Line::Do(Act::Idle),
+    Line::Do(Act::Read { rs: 0 }),
+    Line::Comes(Reading::Byte(0x00)),
+    Line::Do(Act::Clocks(1)),
+    Line::Do(Act::Idle),
+    Line::Do(Act::Read { rs: 0 }),
+    Line::Comes(Reading::Byte(0x02)),
+];
 
 // A stripped character gets a number and is no loss.
-pub fn stripped_without_parity() -> [Line; 22]
-    ensures { result ≡ stripped_without_parity }
-{
-    [
-        Line::Do(Act::Write { rs: 0, byte: 0x43 }),
-        Line::Do(Act::Write { rs: 1, byte: 0x01 }),
-        Line::Do(Act::Write { rs: 0, byte: 0x83 }),
-        Line::Do(Act::Write { rs: 1, byte: 0x16 }),
-        Line::Do(Act::Write { rs: 0, byte: 0x03 }),
-        Line::Do(Act::Write { rs: 1, byte: 0x1c }),
-        Line::Do(Act::Write { rs: 0, byte: 0x04 }),
-        Line::Do(Act::Character(0x16)),
-        Line::Comes(Look::ReceiveCode, 3),
-        Line::Comes(Look::Received(Field::First), 1),
-        Line::Do(Act::Character(0x17)),
-        Line::Comes(Look::ReceiveCode, 0),
-        Line::Do(Act::Character(0x16)),
-        Line::Comes(Look::ReceiveCode, 3),
-        Line::Comes(Look::Received(Field::First), 3),
-        Line::Comes(Look::Waiting(Place::One), 2),
-        Line::Do(Act::Read { rs: 0 }),
-        Line::Comes(Look::Byte, 0x02),
-        Line::Do(Act::Idle),
-        Line::Do(Act::Read { rs: 1 }),
-        Line::Comes(Look::Byte, 0x17),
-        Line::Comes(Look::Received(Field::First), 2),
-    ]
-}
+const STRIPPED_WITHOUT_PARITY: &[Line] = &[
+    Line::Do(Act::Write { rs: 0, byte: 0x43 }),
+    Line::Do(Act::Write { rs: 1, byte: 0x01 }),
+    Line::Do(Act::Write { rs: 0, byte: 0x83 }),
+    Line::Do(Act::Write { rs: 1, byte: 0x16 }),
+    Line::Do(Act::Write { rs: 0, byte: 0x03 }),
+    Line::Do(Act::Write { rs: 1, byte: 0x1c }),
+    Line::Do(Act::Write { rs: 0, byte: 0x04 }),
+    Line::Do(Act::Character(0x16)),
+    Line::Comes(Reading::Receive(ReceiveCode::Stripped)),
+    Line::Comes(Reading::Received(Field::First, 1)),
+    Line::Do(Act::Character(0x17)),
+    Line::Comes(Reading::Receive(ReceiveCode::Nothing)),
+    Line::Do(Act::Character(0x16)),
+    Line::Comes(Reading::Receive(ReceiveCode::Stripped)),
+    Line::Comes(Reading::Received(Field::First, 3)),
+    Line::Comes(Reading::Waiting(Place::One, Some(2))),
+    Line::Do(Act::Read { rs: 0 }),
+    Line::Comes(Reading::Byte(0x02)),
+    Line::Do(Act::Idle),
+    Line::Do(Act::Read { rs: 1 }),
+    Line::Comes(Reading::Byte(0x17)),
+    Line::Comes(Reading::Received(Field::First, 2)),
+];
 
 // With nine bits the parity bit does not matter for stripping.
-pub fn stripped_with_nine_bits() -> [Line; 22]
-    ensures { result ≡ stripped_with_nine_bits }
-{
-    [
-        Line::Do(Act::Write { rs: 0, byte: 0x43 }),
-        Line::Do(Act::Write { rs: 1, byte: 0x01 }),
-        Line::Do(Act::Write { rs: 0, byte: 0x83 }),
-        Line::Do(Act::Write { rs: 1, byte: 0x16 }),
-        Line::Do(Act::Write { rs: 0, byte: 0x03 }),
-        Line::Do(Act::Write { rs: 1, byte: 0x34 }),
-        Line::Do(Act::Write { rs: 0, byte: 0x04 }),
-        Line::Do(Act::Character(0x16)),
-        Line::Do(Act::Bit(0)),
-        Line::Comes(Look::ReceiveCode, 3),
-        Line::Comes(Look::Received(Field::First), 1),
-        Line::Do(Act::Character(0x16)),
-        Line::Do(Act::Bit(1)),
-        Line::Comes(Look::ReceiveCode, 3),
-        Line::Comes(Look::Received(Field::First), 2),
-        Line::Do(Act::Character(0x17)),
-        Line::Do(Act::Bit(0)),
-        Line::Do(Act::Idle),
-        Line::Do(Act::Read { rs: 1 }),
-        Line::Comes(Look::Byte, 0x17),
-        Line::Comes(Look::ReceiveCode, 1),
-        Line::Comes(Look::Received(Field::First), 3),
-    ]
-}
+const STRIPPED_WITH_NINE_BITS: &[Line] = &[
+    Line::Do(Act::Write { rs: 0, byte: 0x43 }),
+    Line::Do(Act::Write { rs: 1, byte: 0x01 }),
+    Line::Do(Act::Write { rs: 0, byte: 0x83 }),
+    Line::Do(Act::Write { rs: 1, byte: 0x16 }),
+    Line::Do(Act::Write { rs: 0, byte: 0x03 }),
+    Line::Do(Act::Write { rs: 1, byte: 0x34 }),
+    Line::Do(Act::Write { rs: 0, byte: 0x04 }),
+    Line::Do(Act::Character(0x16)),
+    Line::Do(Act::Bit(0)),
+    Line::Comes(Reading::Receive(ReceiveCode::Stripped)),
+    Line::Comes(Reading::Received(Field::First, 1)),
+    Line::Do(Act::Character(0x16)),
+    Line::Do(Act::Bit(1)),
+    Line::Comes(Reading::Receive(ReceiveCode::Stripped)),
+    Line::Comes(Reading::Received(Field::First, 2)),
+    Line::Do(Act::Character(0x17)),
+    Line::Do(Act::Bit(0)),
+    Line::Do(Act::Idle),
+    Line::Do(Act::Read { rs: 1 }),
+    Line::Comes(Reading::Byte(0x17)),
+    Line::Comes(Reading::Receive(ReceiveCode::Delivered)),
+    Line::Comes(Reading::Received(Field::First, 3)),
+];
 
 // Six bits with right odd parity are delivered without mark.
-pub fn parity_right_six_odd() -> [Line; 19]
-    ensures { result ≡ parity_right_six_odd }
-{
-    [
-        Line::Do(Act::Write { rs: 0, byte: 0x43 }),
-        Line::Do(Act::Write { rs: 1, byte: 0x01 }),
-        Line::Do(Act::Write { rs: 0, byte: 0x03 }),
-        Line::Do(Act::Write { rs: 1, byte: 0x0c }),
-        Line::Do(Act::Write { rs: 0, byte: 0x00 }),
-        Line::Do(Act::Bit(0)),
-        Line::Do(Act::Bit(1)),
-        Line::Do(Act::Bit(0)),
-        Line::Do(Act::Bit(1)),
-        Line::Do(Act::Bit(0)),
-        Line::Do(Act::Bit(1)),
-        Line::Do(Act::Bit(0)),
-        Line::Do(Act::Idle),
-        Line::Do(Act::Read { rs: 0 }),
-        Line::Comes(Look::Byte, 0x03),
-        Line::Do(Act::Read { rs: 1 }),
-        Line::Comes(Look::Byte, 0x2a),
-        Line::Comes(Look::ReceiveCode, 1),
-        Line::Comes(Look::Received(Field::First), 1),
-    ]
-}
+const PARITY_RIGHT_SIX_ODD: &[Line] = &[
+    Line::Do(Act::Write { rs: 0, byte: 0x43 }),
+    Line::Do(Act::Write { rs: 1, byte: 0x01 }),
+    Line::Do(Act::Write { rs: 0, byte: 0x03 }),
+    Line::Do(Act::Write { rs: 1, byte: 0x0c }),
+    Line::Do(Act::Write { rs: 0, byte: 0x00 }),
+    Line::Do(Act::Bit(0)),
+    Line::Do(Act::Bit(1)),
+    Line::Do(Act::Bit(0)),
+    Line::Do(Act::Bit(1)),
+    Line::Do(Act::Bit(0)),
+    Line::Do(Act::Bit(1)),
+    Line::Do(Act::Bit(0)),
+    Line::Do(Act::Idle),
+    Line::Do(Act::Read { rs: 0 }),
+    Line::Comes(Reading::Byte(0x03)),
+    Line::Do(Act::Read { rs: 1 }),
+    Line::Comes(Reading::Byte(0x2a)),
+    Line::Comes(Reading::Receive(ReceiveCode::Delivered)),
+    Line::Comes(Reading::Received(Field::First, 1)),
+];
 
 // Six bits with wrong even parity are delivered with the mark.
-pub fn parity_wrong_six_even() -> [Line; 21]
-    ensures { result ≡ parity_wrong_six_even }
-{
-    [
-        Line::Do(Act::Write { rs: 0, byte: 0x43 }),
-        Line::Do(Act::Write { rs: 1, byte: 0x01 }),
-        Line::Do(Act::Write { rs: 0, byte: 0x03 }),
-        Line::Do(Act::Write { rs: 1, byte: 0x04 }),
-        Line::Do(Act::Write { rs: 0, byte: 0x00 }),
-        Line::Do(Act::Bit(1)),
-        Line::Do(Act::Bit(1)),
-        Line::Do(Act::Bit(1)),
-        Line::Do(Act::Bit(1)),
-        Line::Do(Act::Bit(1)),
-        Line::Do(Act::Bit(1)),
-        Line::Do(Act::Bit(1)),
-        Line::Do(Act::Idle),
-        Line::Do(Act::Read { rs: 0 }),
-        Line::Comes(Look::Byte, 0x43),
-        Line::Do(Act::Read { rs: 1 }),
-        Line::Comes(Look::Byte, 0x3f),
-        Line::Comes(Look::ReceiveCode, 2),
-        Line::Comes(Look::Received(Field::First), 1),
-        Line::Do(Act::Read { rs: 0 }),
-        Line::Comes(Look::Byte, 0x02),
-    ]
-}
+const PARITY_WRONG_SIX_EVEN: &[Line] = &[
+    Line::Do(Act::Write { rs: 0, byte: 0x43 }),
+    Line::Do(Act::Write { rs: 1, byte: 0x01 }),
+    Line::Do(Act::Write { rs: 0, byte: 0x03 }),
+    Line::Do(Act::Write { rs: 1, byte: 0x04 }),
+    Line::Do(Act::Write { rs: 0, byte: 0x00 }),
+    Line::Do(Act::Bit(1)),
+    Line::Do(Act::Bit(1)),
+    Line::Do(Act::Bit(1)),
+    Line::Do(Act::Bit(1)),
+    Line::Do(Act::Bit(1)),
+    Line::Do(Act::Bit(1)),
+    Line::Do(Act::Bit(1)),
+    Line::Do(Act::Idle),
+    Line::Do(Act::Read { rs: 0 }),
+    Line::Comes(Reading::Byte(0x43)),
+    Line::Do(Act::Read { rs: 1 }),
+    Line::Comes(Reading::Byte(0x3f)),
+    Line::Comes(Reading::Receive(ReceiveCode::DeliveredMarked)),
+    Line::Comes(Reading::Received(Field::First, 1)),
+    Line::Do(Act::Read { rs: 0 }),
+    Line::Comes(Reading::Byte(0x02)),
+];
 
 // Status bit 6 shows the mark of the character in place 3 only.
-pub fn parity_mark_only_of_place_three() -> [Line; 21]
-    ensures { result ≡ parity_mark_only_of_place_three }
-{
-    [
-        Line::Do(Act::Write { rs: 0, byte: 0x43 }),
-        Line::Do(Act::Write { rs: 1, byte: 0x01 }),
-        Line::Do(Act::Write { rs: 0, byte: 0x03 }),
-        Line::Do(Act::Write { rs: 1, byte: 0x24 }),
-        Line::Do(Act::Write { rs: 0, byte: 0x00 }),
-        Line::Do(Act::Character(0x41)),
-        Line::Do(Act::Idle),
-        Line::Do(Act::Character(0xc1)),
-        Line::Do(Act::Idle),
-        Line::Do(Act::Read { rs: 0 }),
-        Line::Comes(Look::Byte, 0x03),
-        Line::Do(Act::Read { rs: 1 }),
-        Line::Comes(Look::ReceiveCode, 1),
-        Line::Do(Act::Read { rs: 0 }),
-        Line::Comes(Look::Byte, 0x02),
-        Line::Do(Act::Idle),
-        Line::Do(Act::Read { rs: 0 }),
-        Line::Comes(Look::Byte, 0x43),
-        Line::Do(Act::Read { rs: 1 }),
-        Line::Comes(Look::ReceiveCode, 2),
-        Line::Comes(Look::Received(Field::First), 2),
-    ]
-}
+const PARITY_MARK_ONLY_OF_PLACE_THREE: &[Line] = &[
+    Line::Do(Act::Write { rs: 0, byte: 0x43 }),
+    Line::Do(Act::Write { rs: 1, byte: 0x01 }),
+    Line::Do(Act::Write { rs: 0, byte: 0x03 }),
+    Line::Do(Act::Write { rs: 1, byte: 0x24 }),
+    Line::Do(Act::Write { rs: 0, byte: 0x00 }),
+    Line::Do(Act::Character(0x41)),
+    Line::Do(Act::Idle),
+    Line::Do(Act::Character(0xc1)),
+    Line::Do(Act::Idle),
+    Line::Do(Act::Read { rs: 0 }),
+    Line::Comes(Reading::Byte(0x03)),
+    Line::Do(Act::Read { rs: 1 }),
+    Line::Comes(Reading::Receive(ReceiveCode::Delivered)),
+    Line::Do(Act::Read { rs: 0 }),
+    Line::Comes(Reading::Byte(0x02)),
+    Line::Do(Act::Idle),
+    Line::Do(Act::Read { rs: 0 }),
+    Line::Comes(Reading::Byte(0x43)),
+    Line::Do(Act::Read { rs: 1 }),
+    Line::Comes(Reading::Receive(ReceiveCode::DeliveredMarked)),
+    Line::Comes(Reading::Received(Field::First, 2)),
+];
 
 // A longer form written in the middle of a character ends it later.
-pub fn form_longer_in_the_middle() -> [Line; 20]
-    ensures { result ≡ form_longer_in_the_middle }
-{
-    [
-        Line::Do(Act::Write { rs: 0, byte: 0x43 }),
-        Line::Do(Act::Write { rs: 1, byte: 0x01 }),
-        Line::Do(Act::Write { rs: 0, byte: 0x03 }),
-        Line::Do(Act::Write { rs: 1, byte: 0x14 }),
-        Line::Do(Act::Write { rs: 0, byte: 0x00 }),
-        Line::Do(Act::Bit(1)),
-        Line::Do(Act::Bit(0)),
-        Line::Do(Act::Bit(1)),
-        Line::Do(Act::Write { rs: 1, byte: 0x1c }),
-        Line::Do(Act::Bit(0)),
-        Line::Do(Act::Bit(0)),
-        Line::Do(Act::Bit(0)),
-        Line::Do(Act::Bit(1)),
-        Line::Comes(Look::Waiting(Place::One), 0),
-        Line::Do(Act::Bit(1)),
-        Line::Comes(Look::Waiting(Place::One), 1),
-        Line::Do(Act::Idle),
-        Line::Do(Act::Read { rs: 1 }),
-        Line::Comes(Look::Byte, 0xc5),
-        Line::Comes(Look::Received(Field::First), 1),
-    ]
-}
+const FORM_LONGER_IN_THE_MIDDLE: &[Line] = &[
+    Line::Do(Act::Write { rs: 0, byte: 0x43 }),
+    Line::Do(Act::Write { rs: 1, byte: 0x01 }),
+    Line::Do(Act::Write { rs: 0, byte: 0x03 }),
+    Line::Do(Act::Write { rs: 1, byte: 0x14 }),
+    Line::Do(Act::Write { rs: 0, byte: 0x00 }),
+    Line::Do(Act::Bit(1)),
+    Line::Do(Act::Bit(0)),
+    Line::Do(Act::Bit(1)),
+    Line::Do(Act::Write { rs: 1, byte: 0x1c }),
+    Line::Do(Act::Bit(0)),
+    Line::Do(Act::Bit(0)),
+    Line::Do(Act::Bit(0)),
+    Line::Do(Act::Bit(1)),
+    Line::Comes(Reading::Waiting(Place::One, None)),
+    Line::Do(Act::Bit(1)),
+    Line::Comes(Reading::Waiting(Place::One, Some(1))),
+    Line::Do(Act::Idle),
+    Line::Do(Act::Read { rs: 1 }),
+    Line::Comes(Reading::Byte(0xc5)),
+    Line::Comes(Reading::Received(Field::First, 1)),
+];
 
 // A shorter form written in the middle of a character ends it at the next bit.
-pub fn form_shorter_in_the_middle() -> [Line; 16]
-    ensures { result ≡ form_shorter_in_the_middle }
-{
-    [
-        Line::Do(Act::Write { rs: 0, byte: 0x43 }),
-        Line::Do(Act::Write { rs: 1, byte: 0x01 }),
-        Line::Do(Act::Write { rs: 0, byte: 0x03 }),
-        Line::Do(Act::Write { rs: 1, byte: 0x30 }),
-        Line::Do(Act::Write { rs: 0, byte: 0x00 }),
-        Line::Do(Act::Character(0xff)),
-        Line::Comes(Look::Waiting(Place::One), 0),
-        Line::Do(Act::Write { rs: 1, byte: 0x10 }),
-        Line::Comes(Look::Waiting(Place::One), 0),
-        Line::Do(Act::Bit(0)),
-        Line::Comes(Look::Waiting(Place::One), 1),
-        Line::Do(Act::Idle),
-        Line::Do(Act::Read { rs: 1 }),
-        Line::Comes(Look::Byte, 0x3f),
-        Line::Comes(Look::ReceiveCode, 1),
-        Line::Comes(Look::Received(Field::First), 1),
-    ]
-}
+const FORM_SHORTER_IN_THE_MIDDLE: &[Line] = &[
+    Line::Do(Act::Write { rs: 0, byte: 0x43 }),
+    Line::Do(Act::Write { rs: 1, byte: 0x01 }),
+    Line::Do(Act::Write { rs: 0, byte: 0x03 }),
+    Line::Do(Act::Write { rs: 1, byte: 0x30 }),
+    Line::Do(Act::Write { rs: 0, byte: 0x00 }),
+    Line::Do(Act::Character(0xff)),
+    Line::Comes(Reading::Waiting(Place::One, None)),
+    Line::Do(Act::Write { rs: 1, byte: 0x10 }),
+    Line::Comes(Reading::Waiting(Place::One, None)),
+    Line::Do(Act::Bit(0)),
+    Line::Comes(Reading::Waiting(Place::One, Some(1))),
+    Line::Do(Act::Idle),
+    Line::Do(Act::Read { rs: 1 }),
+    Line::Comes(Reading::Byte(0x3f)),
+    Line::Comes(Reading::Receive(ReceiveCode::Delivered)),
+    Line::Comes(Reading::Received(Field::First, 1)),
+];
 
 // Changing external while the receiver is on restarts it.
-pub fn external_changed_restarts() -> [Line; 19]
-    ensures { result ≡ external_changed_restarts }
-{
-    [
-        Line::Do(Act::Write { rs: 0, byte: 0x43 }),
-        Line::Do(Act::Write { rs: 1, byte: 0x01 }),
-        Line::Do(Act::Write { rs: 0, byte: 0x03 }),
-        Line::Do(Act::Write { rs: 1, byte: 0x1c }),
-        Line::Do(Act::Write { rs: 0, byte: 0x00 }),
-        Line::Do(Act::Write { rs: 0, byte: 0x40 }),
-        Line::Do(Act::Bit(1)),
-        Line::Do(Act::Bit(1)),
-        Line::Do(Act::Bit(1)),
-        Line::Do(Act::Write { rs: 1, byte: 0x00 }),
-        Line::Do(Act::Character(0xff)),
-        Line::Comes(Look::Waiting(Place::One), 0),
-        Line::Do(Act::Write { rs: 1, byte: 0x01 }),
-        Line::Do(Act::Character(0x5a)),
-        Line::Comes(Look::Waiting(Place::One), 1),
-        Line::Do(Act::Idle),
-        Line::Do(Act::Read { rs: 1 }),
-        Line::Comes(Look::Byte, 0x5a),
-        Line::Comes(Look::Received(Field::First), 1),
-    ]
-}
+const EXTERNAL_CHANGED_RESTARTS: &[Line] = &[
+    Line::Do(Act::Write { rs: 0, byte: 0x43 }),
+    Line::Do(Act::Write { rs: 1, byte: 0x01 }),
+    Line::Do(Act::Write { rs: 0, byte: 0x03 }),
+    Line::Do(Act::Write { rs: 1, byte: 0x1c }),
+    Line::Do(Act::Write { rs: 0, byte: 0x00 }),
+    Line::Do(Act::Write { rs: 0, byte: 0x40 }),
+    Line::Do(Act::Bit(1)),
+    Line::Do(Act::Bit(1)),
+    Line::Do(Act::Bit(1)),
+    Line::Do(Act::Write { rs: 1, byte: 0x00 }),
+    Line::Do(Act::Character(0xff)),
+    Line::Comes(Reading::Waiting(Place::One, None)),
+    Line::Do(Act::Write { rs: 1, byte: 0x01 }),
+    Line::Do(Act::Character(0x5a)),
+    Line::Comes(Reading::Waiting(Place::One, Some(1))),
+    Line::Do(Act::Idle),
+    Line::Do(Act::Read { rs: 1 }),
+    Line::Comes(Reading::Byte(0x5a)),
+    Line::Comes(Reading::Received(Field::First, 1)),
+];
 
 // Rewriting the same external does not restart the receiver.
-pub fn external_same_goes_on() -> [Line; 20]
-    ensures { result ≡ external_same_goes_on }
-{
-    [
-        Line::Do(Act::Write { rs: 0, byte: 0x43 }),
-        Line::Do(Act::Write { rs: 1, byte: 0x01 }),
-        Line::Do(Act::Write { rs: 0, byte: 0x03 }),
-        Line::Do(Act::Write { rs: 1, byte: 0x1c }),
-        Line::Do(Act::Write { rs: 0, byte: 0x00 }),
-        Line::Do(Act::Write { rs: 0, byte: 0x40 }),
-        Line::Do(Act::Bit(1)),
-        Line::Do(Act::Bit(1)),
-        Line::Do(Act::Bit(1)),
-        Line::Do(Act::Write { rs: 1, byte: 0x01 }),
-        Line::Do(Act::Bit(0)),
-        Line::Do(Act::Bit(0)),
-        Line::Do(Act::Bit(0)),
-        Line::Do(Act::Bit(0)),
-        Line::Do(Act::Bit(0)),
-        Line::Comes(Look::Waiting(Place::One), 1),
-        Line::Do(Act::Idle),
-        Line::Do(Act::Read { rs: 1 }),
-        Line::Comes(Look::Byte, 0x07),
-        Line::Comes(Look::Received(Field::First), 1),
-    ]
-}
+const EXTERNAL_SAME_GOES_ON: &[Line] = &[
+    Line::Do(Act::Write { rs: 0, byte: 0x43 }),
+    Line::Do(Act::Write { rs: 1, byte: 0x01 }),
+    Line::Do(Act::Write { rs: 0, byte: 0x03 }),
+    Line::Do(Act::Write { rs: 1, byte: 0x1c }),
+    Line::Do(Act::Write { rs: 0, byte: 0x00 }),
+    Line::Do(Act::Write { rs: 0, byte: 0x40 }),
+    Line::Do(Act::Bit(1)),
+    Line::Do(Act::Bit(1)),
+    Line::Do(Act::Bit(1)),
+    Line::Do(Act::Write { rs: 1, byte: 0x01 }),
+    Line::Do(Act::Bit(0)),
+    Line::Do(Act::Bit(0)),
+    Line::Do(Act::Bit(0)),
+    Line::Do(Act::Bit(0)),
+    Line::Do(Act::Bit(0)),
+    Line::Comes(Reading::Waiting(Place::One, Some(1))),
+    Line::Do(Act::Idle),
+    Line::Do(Act::Read { rs: 1 }),
+    Line::Comes(Reading::Byte(0x07)),
+    Line::Comes(Reading::Received(Field::First, 1)),
+];
 
 // While Clear Sync is set bits are ignored, and its end restarts the receiver.
-pub fn clear_sync_ignores_bits() -> [Line; 17]
-    ensures { result ≡ clear_sync_ignores_bits }
-{
-    [
-        Line::Do(Act::Write { rs: 0, byte: 0x43 }),
-        Line::Do(Act::Write { rs: 1, byte: 0x01 }),
-        Line::Do(Act::Write { rs: 0, byte: 0x03 }),
-        Line::Do(Act::Write { rs: 1, byte: 0x1c }),
-        Line::Do(Act::Write { rs: 0, byte: 0x00 }),
-        Line::Do(Act::Bit(1)),
-        Line::Do(Act::Bit(1)),
-        Line::Do(Act::Bit(1)),
-        Line::Do(Act::Write { rs: 0, byte: 0x08 }),
-        Line::Do(Act::Character(0xff)),
-        Line::Comes(Look::Waiting(Place::One), 0),
-        Line::Do(Act::Write { rs: 0, byte: 0x00 }),
-        Line::Do(Act::Character(0xa5)),
-        Line::Comes(Look::Waiting(Place::One), 1),
-        Line::Do(Act::Idle),
-        Line::Do(Act::Read { rs: 1 }),
-        Line::Comes(Look::Byte, 0xa5),
-    ]
-}
+const CLEAR_SYNC_IGNORES_BITS: &[Line] = &[
+    Line::Do(Act::Write { rs: 0, byte: 0x43 }),
+    Line::Do(Act::Write { rs: 1, byte: 0x01 }),
+    Line::Do(Act::Write { rs: 0, byte: 0x03 }),
+    Line::Do(Act::Write { rs: 1, byte: 0x1c }),
+    Line::Do(Act::Write { rs: 0, byte: 0x00 }),
+    Line::Do(Act::Bit(1)),
+    Line::Do(Act::Bit(1)),
+    Line::Do(Act::Bit(1)),
+    Line::Do(Act::Write { rs: 0, byte: 0x08 }),
+    Line::Do(Act::Character(0xff)),
+    Line::Comes(Reading::Waiting(Place::One, None)),
+    Line::Do(Act::Write { rs: 0, byte: 0x00 }),
+    Line::Do(Act::Character(0xa5)),
+    Line::Comes(Reading::Waiting(Place::One, Some(1))),
+    Line::Do(Act::Idle),
+    Line::Do(Act::Read { rs: 1 }),
+    Line::Comes(Reading::Byte(0xa5)),
+];
 
 // A Status read and a data read clear the stored DCD, but the high level still shows.
-pub fn dcd_stored_and_level() -> [Line; 15]
-    ensures { result ≡ dcd_stored_and_level }
-{
-    [
-        Line::Do(Act::Write { rs: 0, byte: 0x43 }),
-        Line::Do(Act::Write { rs: 1, byte: 0x01 }),
-        Line::Do(Act::Write { rs: 0, byte: 0x03 }),
-        Line::Do(Act::Write { rs: 1, byte: 0x1c }),
-        Line::Do(Act::Write { rs: 0, byte: 0x00 }),
-        Line::Do(Act::Pin { pin: 2, level: 1 }),
-        Line::Do(Act::Read { rs: 0 }),
-        Line::Comes(Look::Byte, 0x06),
-        Line::Do(Act::Read { rs: 1 }),
-        Line::Comes(Look::Byte, 0x00),
-        Line::Do(Act::Read { rs: 0 }),
-        Line::Comes(Look::Byte, 0x06),
-        Line::Do(Act::Pin { pin: 2, level: 0 }),
-        Line::Do(Act::Read { rs: 0 }),
-        Line::Comes(Look::Byte, 0x02),
-    ]
-}
+const DCD_STORED_AND_LEVEL: &[Line] = &[
+    Line::Do(Act::Write { rs: 0, byte: 0x43 }),
+    Line::Do(Act::Write { rs: 1, byte: 0x01 }),
+    Line::Do(Act::Write { rs: 0, byte: 0x03 }),
+    Line::Do(Act::Write { rs: 1, byte: 0x1c }),
+    Line::Do(Act::Write { rs: 0, byte: 0x00 }),
+    Line::Do(Act::Pin { pin: 2, level: 1 }),
+    Line::Do(Act::Read { rs: 0 }),
+    Line::Comes(Reading::Byte(0x06)),
+    Line::Do(Act::Read { rs: 1 }),
+    Line::Comes(Reading::Byte(0x00)),
+    Line::Do(Act::Read { rs: 0 }),
+    Line::Comes(Reading::Byte(0x06)),
+    Line::Do(Act::Pin { pin: 2, level: 0 }),
+    Line::Do(Act::Read { rs: 0 }),
+    Line::Comes(Reading::Byte(0x02)),
+];
 
 // DCD rising again drops the arm.
-pub fn dcd_rising_drops_arm() -> [Line; 17]
-    ensures { result ≡ dcd_rising_drops_arm }
-{
-    [
-        Line::Do(Act::Write { rs: 0, byte: 0x43 }),
-        Line::Do(Act::Write { rs: 1, byte: 0x01 }),
-        Line::Do(Act::Write { rs: 0, byte: 0x03 }),
-        Line::Do(Act::Write { rs: 1, byte: 0x1c }),
-        Line::Do(Act::Write { rs: 0, byte: 0x00 }),
-        Line::Do(Act::Pin { pin: 2, level: 1 }),
-        Line::Do(Act::Read { rs: 0 }),
-        Line::Comes(Look::Byte, 0x06),
-        Line::Do(Act::Pin { pin: 2, level: 0 }),
-        Line::Do(Act::Pin { pin: 2, level: 1 }),
-        Line::Do(Act::Read { rs: 1 }),
-        Line::Do(Act::Pin { pin: 2, level: 0 }),
-        Line::Do(Act::Read { rs: 0 }),
-        Line::Comes(Look::Byte, 0x06),
-        Line::Do(Act::Read { rs: 1 }),
-        Line::Do(Act::Read { rs: 0 }),
-        Line::Comes(Look::Byte, 0x02),
-    ]
-}
+const DCD_RISING_DROPS_ARM: &[Line] = &[
+    Line::Do(Act::Write { rs: 0, byte: 0x43 }),
+    Line::Do(Act::Write { rs: 1, byte: 0x01 }),
+    Line::Do(Act::Write { rs: 0, byte: 0x03 }),
+    Line::Do(Act::Write { rs: 1, byte: 0x1c }),
+    Line::Do(Act::Write { rs: 0, byte: 0x00 }),
+    Line::Do(Act::Pin { pin: 2, level: 1 }),
+    Line::Do(Act::Read { rs: 0 }),
+    Line::Comes(Reading::Byte(0x06)),
+    Line::Do(Act::Pin { pin: 2, level: 0 }),
+    Line::Do(Act::Pin { pin: 2, level: 1 }),
+    Line::Do(Act::Read { rs: 1 }),
+    Line::Do(Act::Pin { pin: 2, level: 0 }),
+    Line::Do(Act::Read { rs: 0 }),
+    Line::Comes(Reading::Byte(0x06)),
+    Line::Do(Act::Read { rs: 1 }),
+    Line::Do(Act::Read { rs: 0 }),
+    Line::Comes(Reading::Byte(0x02)),
+];
 
 // While DCD is high bits are ignored, and its fall restarts the receiver.
-pub fn dcd_high_ignores_bits() -> [Line; 20]
-    ensures { result ≡ dcd_high_ignores_bits }
-{
-    [
-        Line::Do(Act::Write { rs: 0, byte: 0x43 }),
-        Line::Do(Act::Write { rs: 1, byte: 0x01 }),
-        Line::Do(Act::Write { rs: 0, byte: 0x03 }),
-        Line::Do(Act::Write { rs: 1, byte: 0x1c }),
-        Line::Do(Act::Write { rs: 0, byte: 0x00 }),
-        Line::Do(Act::Bit(1)),
-        Line::Do(Act::Bit(1)),
-        Line::Do(Act::Bit(1)),
-        Line::Do(Act::Pin { pin: 2, level: 1 }),
-        Line::Do(Act::Character(0xff)),
-        Line::Comes(Look::Waiting(Place::One), 0),
-        Line::Do(Act::Pin { pin: 2, level: 0 }),
-        Line::Do(Act::Character(0x3c)),
-        Line::Comes(Look::Waiting(Place::One), 1),
-        Line::Do(Act::Idle),
-        Line::Do(Act::Read { rs: 1 }),
-        Line::Comes(Look::Byte, 0x3c),
-        Line::Comes(Look::Received(Field::First), 1),
-        Line::Do(Act::Read { rs: 0 }),
-        Line::Comes(Look::Byte, 0x06),
-    ]
-}
+const DCD_HIGH_IGNORES_BITS: &[Line] = &[
+    Line::Do(Act::Write { rs: 0, byte: 0x43 }),
+    Line::Do(Act::Write { rs: 1, byte: 0x01 }),
+    Line::Do(Act::Write { rs: 0, byte: 0x03 }),
+    Line::Do(Act::Write { rs: 1, byte: 0x1c }),
+    Line::Do(Act::Write { rs: 0, byte: 0x00 }),
+    Line::Do(Act::Bit(1)),
+    Line::Do(Act::Bit(1)),
+    Line::Do(Act::Bit(1)),
+    Line::Do(Act::Pin { pin: 2, level: 1 }),
+    Line::Do(Act::Character(0xff)),
+    Line::Comes(Reading::Waiting(Place::One, None)),
+    Line::Do(Act::Pin { pin: 2, level: 0 }),
+    Line::Do(Act::Character(0x3c)),
+    Line::Comes(Reading::Waiting(Place::One, Some(1))),
+    Line::Do(Act::Idle),
+    Line::Do(Act::Read { rs: 1 }),
+    Line::Comes(Reading::Byte(0x3c)),
+    Line::Comes(Reading::Received(Field::First, 1)),
+    Line::Do(Act::Read { rs: 0 }),
+    Line::Comes(Reading::Byte(0x06)),
+];
 
 // A sync fill pulses underflow and sets TUF, and CTUF clears it.
-pub fn underflow_and_clear() -> [Line; 22]
-    ensures { result ≡ underflow_and_clear }
-{
-    [
-        Line::Do(Act::Write { rs: 0, byte: 0x43 }),
-        Line::Do(Act::Write { rs: 1, byte: 0x01 }),
-        Line::Do(Act::Write { rs: 0, byte: 0x03 }),
-        Line::Do(Act::Write { rs: 1, byte: 0x1c }),
-        Line::Do(Act::Write { rs: 0, byte: 0x00 }),
-        Line::Do(Act::Write { rs: 1, byte: 0x5c }),
-        Line::Do(Act::Clocks(1)),
-        Line::Comes(Look::Byte, 1),
-        Line::Comes(Look::Underflow, 1),
-        Line::Do(Act::Read { rs: 0 }),
-        Line::Comes(Look::Byte, 0x12),
-        Line::Do(Act::Write { rs: 0, byte: 0x40 }),
-        Line::Do(Act::Write { rs: 1, byte: 0x09 }),
-        Line::Do(Act::Read { rs: 0 }),
-        Line::Comes(Look::Byte, 0x02),
-        Line::Do(Act::Clocks(7)),
-        Line::Comes(Look::Line, 0),
-        Line::Comes(Look::Underflow, 0),
-        Line::Do(Act::Clocks(1)),
-        Line::Comes(Look::Underflow, 1),
-        Line::Do(Act::Read { rs: 0 }),
-        Line::Comes(Look::Byte, 0x12),
-    ]
-}
+const UNDERFLOW_AND_CLEAR: &[Line] = &[
+    Line::Do(Act::Write { rs: 0, byte: 0x43 }),
+    Line::Do(Act::Write { rs: 1, byte: 0x01 }),
+    Line::Do(Act::Write { rs: 0, byte: 0x03 }),
+    Line::Do(Act::Write { rs: 1, byte: 0x1c }),
+    Line::Do(Act::Write { rs: 0, byte: 0x00 }),
+    Line::Do(Act::Write { rs: 1, byte: 0x5c }),
+    Line::Do(Act::Clocks(1)),
+    Line::Comes(Reading::Byte(1)),
+    Line::Comes(Reading::Underflow(true)),
+    Line::Do(Act::Read { rs: 0 }),
+    Line::Comes(Reading::Byte(0x12)),
+    Line::Do(Act::Write { rs: 0, byte: 0x40 }),
+    Line::Do(Act::Write { rs: 1, byte: 0x09 }),
+    Line::Do(Act::Read { rs: 0 }),
+    Line::Comes(Reading::Byte(0x02)),
+    Line::Do(Act::Clocks(7)),
+    Line::Comes(Reading::Line(0)),
+    Line::Comes(Reading::Underflow(false)),
+    Line::Do(Act::Clocks(1)),
+    Line::Comes(Reading::Underflow(true)),
+    Line::Do(Act::Read { rs: 0 }),
+    Line::Comes(Reading::Byte(0x12)),
+];
 
 // With seven bits and parity the sync fill is the code alone.
-pub fn sync_fill_seven_even() -> [Line; 9]
-    ensures { result ≡ sync_fill_seven_even }
-{
-    [
-        Line::Do(Act::Write { rs: 0, byte: 0x83 }),
-        Line::Do(Act::Write { rs: 1, byte: 0x16 }),
-        Line::Do(Act::Write { rs: 0, byte: 0x03 }),
-        Line::Do(Act::Write { rs: 1, byte: 0x60 }),
-        Line::Do(Act::Write { rs: 0, byte: 0x00 }),
-        Line::Do(Act::Clocks(9)),
-        Line::Comes(Look::Line, 360),
-        Line::Comes(Look::Underflow, 1),
-        Line::Comes(Look::ShiftCode, 0),
-    ]
-}
+const SYNC_FILL_SEVEN_EVEN: &[Line] = &[
+    Line::Do(Act::Write { rs: 0, byte: 0x83 }),
+    Line::Do(Act::Write { rs: 1, byte: 0x16 }),
+    Line::Do(Act::Write { rs: 0, byte: 0x03 }),
+    Line::Do(Act::Write { rs: 1, byte: 0x60 }),
+    Line::Do(Act::Write { rs: 0, byte: 0x00 }),
+    Line::Do(Act::Clocks(9)),
+    Line::Comes(Reading::Line(0b101101000)),
+    Line::Comes(Reading::Underflow(true)),
+    Line::Comes(Reading::Shift(ShiftCode::Nothing)),
+];
 
 // A loaded word keeps its length when the form is changed.
-pub fn word_keeps_length() -> [Line; 19]
-    ensures { result ≡ word_keeps_length }
-{
-    [
-        Line::Do(Act::Write { rs: 0, byte: 0x43 }),
-        Line::Do(Act::Write { rs: 1, byte: 0x01 }),
-        Line::Do(Act::Write { rs: 0, byte: 0x03 }),
-        Line::Do(Act::Write { rs: 1, byte: 0x1c }),
-        Line::Do(Act::Write { rs: 0, byte: 0xc0 }),
-        Line::Do(Act::Write { rs: 1, byte: 0xc5 }),
-        Line::Do(Act::Idle),
-        Line::Do(Act::Clocks(1)),
-        Line::Do(Act::Write { rs: 0, byte: 0x00 }),
-        Line::Do(Act::Write { rs: 1, byte: 0x44 }),
-        Line::Do(Act::Clocks(8)),
-        Line::Comes(Look::Line, 0b10100011),
-        Line::Comes(Look::ShiftCode, 2),
-        Line::Comes(Look::Underflow, 1),
-        Line::Do(Act::Clocks(6)),
-        Line::Comes(Look::Underflow, 0),
-        Line::Do(Act::Clocks(1)),
-        Line::Comes(Look::Byte, 0),
-        Line::Comes(Look::Underflow, 1),
-    ]
-}
+const WORD_KEEPS_LENGTH: &[Line] = &[
+    Line::Do(Act::Write { rs: 0, byte: 0x43 }),
+    Line::Do(Act::Write { rs: 1, byte: 0x01 }),
+    Line::Do(Act::Write { rs: 0, byte: 0x03 }),
+    Line::Do(Act::Write { rs: 1, byte: 0x1c }),
+    Line::Do(Act::Write { rs: 0, byte: 0xc0 }),
+    Line::Do(Act::Write { rs: 1, byte: 0xc5 }),
+    Line::Do(Act::Idle),
+    Line::Do(Act::Clocks(1)),
+    Line::Do(Act::Write { rs: 0, byte: 0x00 }),
+    Line::Do(Act::Write { rs: 1, byte: 0x44 }),
+    Line::Do(Act::Clocks(8)),
+    Line::Comes(Reading::Line(0b10100011)),
+    Line::Comes(Reading::Shift(ShiftCode::LastBit)),
+    Line::Comes(Reading::Underflow(true)),
+    Line::Do(Act::Clocks(6)),
+    Line::Comes(Reading::Underflow(false)),
+    Line::Do(Act::Clocks(1)),
+    Line::Comes(Reading::Byte(0)),
+    Line::Comes(Reading::Underflow(true)),
+];
 
 // Each bit of a sent byte has code 1, the last one code 2.
-pub fn sent_byte_codes() -> [Line; 21]
-    ensures { result ≡ sent_byte_codes }
-{
-    [
-        Line::Do(Act::Write { rs: 0, byte: 0x43 }),
-        Line::Do(Act::Write { rs: 1, byte: 0x01 }),
-        Line::Do(Act::Write { rs: 0, byte: 0x03 }),
-        Line::Do(Act::Write { rs: 1, byte: 0x1c }),
-        Line::Do(Act::Write { rs: 0, byte: 0xc0 }),
-        Line::Do(Act::Write { rs: 1, byte: 0x41 }),
-        Line::Do(Act::Idle),
-        Line::Do(Act::Clocks(1)),
-        Line::Comes(Look::ShiftCode, 0),
-        Line::Comes(Look::Shifting, 1),
-        Line::Do(Act::Clocks(1)),
-        Line::Comes(Look::Byte, 1),
-        Line::Comes(Look::ShiftCode, 1),
-        Line::Comes(Look::Shifted, 1),
-        Line::Do(Act::Clocks(6)),
-        Line::Comes(Look::Line, 1),
-        Line::Comes(Look::ShiftCode, 1),
-        Line::Do(Act::Clocks(1)),
-        Line::Comes(Look::ShiftCode, 2),
-        Line::Comes(Look::Shifted, 1),
-        Line::Comes(Look::Shifting, 0),
-    ]
-}
+const SENT_BYTE_CODES: &[Line] = &[
+    Line::Do(Act::Write { rs: 0, byte: 0x43 }),
+    Line::Do(Act::Write { rs: 1, byte: 0x01 }),
+    Line::Do(Act::Write { rs: 0, byte: 0x03 }),
+    Line::Do(Act::Write { rs: 1, byte: 0x1c }),
+    Line::Do(Act::Write { rs: 0, byte: 0xc0 }),
+    Line::Do(Act::Write { rs: 1, byte: 0x41 }),
+    Line::Do(Act::Idle),
+    Line::Do(Act::Clocks(1)),
+    Line::Comes(Reading::Shift(ShiftCode::Nothing)),
+    Line::Comes(Reading::Shifting(Some(1))),
+    Line::Do(Act::Clocks(1)),
+    Line::Comes(Reading::Byte(1)),
+    Line::Comes(Reading::Shift(ShiftCode::Bit)),
+    Line::Comes(Reading::Shifted(1)),
+    Line::Do(Act::Clocks(6)),
+    Line::Comes(Reading::Line(1)),
+    Line::Comes(Reading::Shift(ShiftCode::Bit)),
+    Line::Do(Act::Clocks(1)),
+    Line::Comes(Reading::Shift(ShiftCode::LastBit)),
+    Line::Comes(Reading::Shifted(1)),
+    Line::Comes(Reading::Shifting(None)),
+];
 
 // CTS rising cuts the byte that is being shifted, and held clocks show 1.
-pub fn cts_cuts_shifted_byte() -> [Line; 20]
-    ensures { result ≡ cts_cuts_shifted_byte }
-{
-    [
-        Line::Do(Act::Write { rs: 0, byte: 0x43 }),
-        Line::Do(Act::Write { rs: 1, byte: 0x01 }),
-        Line::Do(Act::Write { rs: 0, byte: 0x03 }),
-        Line::Do(Act::Write { rs: 1, byte: 0x1c }),
-        Line::Do(Act::Write { rs: 0, byte: 0xc0 }),
-        Line::Do(Act::Write { rs: 1, byte: 0x5a }),
-        Line::Do(Act::Idle),
-        Line::Do(Act::Clocks(4)),
-        Line::Comes(Look::Line, 10),
-        Line::Do(Act::Pin { pin: 1, level: 1 }),
-        Line::Comes(Look::ShiftCode, 3),
-        Line::Comes(Look::Shifted, 1),
-        Line::Comes(Look::Shifting, 0),
-        Line::Do(Act::Clocks(2)),
-        Line::Comes(Look::Line, 3),
-        Line::Comes(Look::ShiftCode, 0),
-        Line::Do(Act::Pin { pin: 1, level: 0 }),
-        Line::Do(Act::Clocks(9)),
-        Line::Comes(Look::Line, 511),
-        Line::Comes(Look::ShiftCode, 0),
-    ]
-}
+const CTS_CUTS_SHIFTED_BYTE: &[Line] = &[
+    Line::Do(Act::Write { rs: 0, byte: 0x43 }),
+    Line::Do(Act::Write { rs: 1, byte: 0x01 }),
+    Line::Do(Act::Write { rs: 0, byte: 0x03 }),
+    Line::Do(Act::Write { rs: 1, byte: 0x1c }),
+    Line::Do(Act::Write { rs: 0, byte: 0xc0 }),
+    Line::Do(Act::Write { rs: 1, byte: 0x5a }),
+    Line::Do(Act::Idle),
+    Line::Do(Act::Clocks(4)),
+    Line::Comes(Reading::Line(0b1010)),
+    Line::Do(Act::Pin { pin: 1, level: 1 }),
+    Line::Comes(Reading::Shift(ShiftCode::Cut)),
+    Line::Comes(Reading::Shifted(1)),
+    Line::Comes(Reading::Shifting(None)),
+    Line::Do(Act::Clocks(2)),
+    Line::Comes(Reading::Line(0b11)),
+    Line::Comes(Reading::Shift(ShiftCode::Nothing)),
+    Line::Do(Act::Pin { pin: 1, level: 0 }),
+    Line::Do(Act::Clocks(9)),
+    Line::Comes(Reading::Line(0b111111111)),
+    Line::Comes(Reading::Shift(ShiftCode::Nothing)),
+];
 
 // CTS rising leaves the queue alone, and after its fall the next byte is sent.
-pub fn cts_keeps_queue() -> [Line; 22]
-    ensures { result ≡ cts_keeps_queue }
-{
-    [
-        Line::Do(Act::Write { rs: 0, byte: 0x43 }),
-        Line::Do(Act::Write { rs: 1, byte: 0x01 }),
-        Line::Do(Act::Write { rs: 0, byte: 0x03 }),
-        Line::Do(Act::Write { rs: 1, byte: 0x1c }),
-        Line::Do(Act::Write { rs: 0, byte: 0xc0 }),
-        Line::Do(Act::Write { rs: 1, byte: 0xa1 }),
-        Line::Do(Act::Idle),
-        Line::Do(Act::Write { rs: 1, byte: 0xb2 }),
-        Line::Do(Act::Idle),
-        Line::Do(Act::Clocks(1)),
-        Line::Do(Act::Pin { pin: 1, level: 1 }),
-        Line::Comes(Look::ShiftCode, 3),
-        Line::Comes(Look::Shifted, 1),
-        Line::Do(Act::Idle),
-        Line::Do(Act::Clocks(1)),
-        Line::Comes(Look::Shifting, 0),
-        Line::Do(Act::Pin { pin: 1, level: 0 }),
-        Line::Do(Act::Clocks(1)),
-        Line::Comes(Look::Byte, 1),
-        Line::Do(Act::Clocks(8)),
-        Line::Comes(Look::Line, 0b01001101),
-        Line::Comes(Look::Shifted, 2),
-    ]
-}
+const CTS_KEEPS_QUEUE: &[Line] = &[
+    Line::Do(Act::Write { rs: 0, byte: 0x43 }),
+    Line::Do(Act::Write { rs: 1, byte: 0x01 }),
+    Line::Do(Act::Write { rs: 0, byte: 0x03 }),
+    Line::Do(Act::Write { rs: 1, byte: 0x1c }),
+    Line::Do(Act::Write { rs: 0, byte: 0xc0 }),
+    Line::Do(Act::Write { rs: 1, byte: 0xa1 }),
+    Line::Do(Act::Idle),
+    Line::Do(Act::Write { rs: 1, byte: 0xb2 }),
+    Line::Do(Act::Idle),
+    Line::Do(Act::Clocks(1)),
+    Line::Do(Act::Pin { pin: 1, level: 1 }),
+    Line::Comes(Reading::Shift(ShiftCode::Cut)),
+    Line::Comes(Reading::Shifted(1)),
+    Line::Do(Act::Idle),
+    Line::Do(Act::Clocks(1)),
+    Line::Comes(Reading::Shifting(None)),
+    Line::Do(Act::Pin { pin: 1, level: 0 }),
+    Line::Do(Act::Clocks(1)),
+    Line::Comes(Reading::Byte(1)),
+    Line::Do(Act::Clocks(8)),
+    Line::Comes(Reading::Line(0b01001101)),
+    Line::Comes(Reading::Shifted(2)),
+];
 
 // CTS rising cuts also a byte of which no bit was shown, and tells nothing of a fill.
-pub fn cts_cuts_loaded_byte() -> [Line; 19]
-    ensures { result ≡ cts_cuts_loaded_byte }
-{
-    [
-        Line::Do(Act::Write { rs: 0, byte: 0x43 }),
-        Line::Do(Act::Write { rs: 1, byte: 0x01 }),
-        Line::Do(Act::Write { rs: 0, byte: 0x03 }),
-        Line::Do(Act::Write { rs: 1, byte: 0x1c }),
-        Line::Do(Act::Write { rs: 0, byte: 0xc0 }),
-        Line::Do(Act::Write { rs: 1, byte: 0x5a }),
-        Line::Do(Act::Idle),
-        Line::Do(Act::Clocks(1)),
-        Line::Comes(Look::Shifting, 1),
-        Line::Do(Act::Pin { pin: 1, level: 1 }),
-        Line::Comes(Look::ShiftCode, 3),
-        Line::Comes(Look::Shifted, 1),
-        Line::Comes(Look::Shifting, 0),
-        Line::Do(Act::Pin { pin: 1, level: 0 }),
-        Line::Do(Act::Clocks(3)),
-        Line::Comes(Look::Line, 7),
-        Line::Do(Act::Pin { pin: 1, level: 1 }),
-        Line::Comes(Look::ShiftCode, 0),
-        Line::Comes(Look::Shifted, 0),
-    ]
-}
+const CTS_CUTS_LOADED_BYTE: &[Line] = &[
+    Line::Do(Act::Write { rs: 0, byte: 0x43 }),
+    Line::Do(Act::Write { rs: 1, byte: 0x01 }),
+    Line::Do(Act::Write { rs: 0, byte: 0x03 }),
+    Line::Do(Act::Write { rs: 1, byte: 0x1c }),
+    Line::Do(Act::Write { rs: 0, byte: 0xc0 }),
+    Line::Do(Act::Write { rs: 1, byte: 0x5a }),
+    Line::Do(Act::Idle),
+    Line::Do(Act::Clocks(1)),
+    Line::Comes(Reading::Shifting(Some(1))),
+    Line::Do(Act::Pin { pin: 1, level: 1 }),
+    Line::Comes(Reading::Shift(ShiftCode::Cut)),
+    Line::Comes(Reading::Shifted(1)),
+    Line::Comes(Reading::Shifting(None)),
+    Line::Do(Act::Pin { pin: 1, level: 0 }),
+    Line::Do(Act::Clocks(3)),
+    Line::Comes(Reading::Line(0b111)),
+    Line::Do(Act::Pin { pin: 1, level: 1 }),
+    Line::Comes(Reading::Shift(ShiftCode::Nothing)),
+    Line::Comes(Reading::Shifted(0)),
+];
 
 // With external a high CTS leaves TDRA alone.
-pub fn cts_with_external_keeps_tdra() -> [Line; 18]
-    ensures { result ≡ cts_with_external_keeps_tdra }
-{
-    [
-        Line::Do(Act::Write { rs: 0, byte: 0x43 }),
-        Line::Do(Act::Write { rs: 1, byte: 0x01 }),
-        Line::Do(Act::Write { rs: 0, byte: 0x03 }),
-        Line::Do(Act::Write { rs: 1, byte: 0x1c }),
-        Line::Do(Act::Write { rs: 0, byte: 0x00 }),
-        Line::Do(Act::Pin { pin: 1, level: 1 }),
-        Line::Do(Act::Read { rs: 0 }),
-        Line::Comes(Look::Byte, 0x0a),
-        Line::Do(Act::Write { rs: 0, byte: 0x40 }),
-        Line::Do(Act::Write { rs: 1, byte: 0x05 }),
-        Line::Do(Act::Read { rs: 0 }),
-        Line::Comes(Look::Byte, 0x0a),
-        Line::Do(Act::Write { rs: 1, byte: 0x00 }),
-        Line::Do(Act::Read { rs: 0 }),
-        Line::Comes(Look::Byte, 0x08),
-        Line::Do(Act::Pin { pin: 1, level: 0 }),
-        Line::Do(Act::Read { rs: 0 }),
-        Line::Comes(Look::Byte, 0x02),
-    ]
-}
+const CTS_WITH_EXTERNAL_KEEPS_TDRA: &[Line] = &[
+    Line::Do(Act::Write { rs: 0, byte: 0x43 }),
+    Line::Do(Act::Write { rs: 1, byte: 0x01 }),
+    Line::Do(Act::Write { rs: 0, byte: 0x03 }),
+    Line::Do(Act::Write { rs: 1, byte: 0x1c }),
+    Line::Do(Act::Write { rs: 0, byte: 0x00 }),
+    Line::Do(Act::Pin { pin: 1, level: 1 }),
+    Line::Do(Act::Read { rs: 0 }),
+    Line::Comes(Reading::Byte(0x0a)),
+    Line::Do(Act::Write { rs: 0, byte: 0x40 }),
+    Line::Do(Act::Write { rs: 1, byte: 0x05 }),
+    Line::Do(Act::Read { rs: 0 }),
+    Line::Comes(Reading::Byte(0x0a)),
+    Line::Do(Act::Write { rs: 1, byte: 0x00 }),
+    Line::Do(Act::Read { rs: 0 }),
+    Line::Comes(Reading::Byte(0x08)),
+    Line::Do(Act::Pin { pin: 1, level: 0 }),
+    Line::Do(Act::Read { rs: 0 }),
+    Line::Comes(Reading::Byte(0x02)),
+];
 
 // CTS rising is stored also while Tx Rs is set, and a transmitter reset clears it.
-pub fn cts_stored_while_reset() -> [Line; 12]
-    ensures { result ≡ cts_stored_while_reset }
-{
-    [
-        Line::Do(Act::Pin { pin: 1, level: 1 }),
-        Line::Do(Act::Read { rs: 0 }),
-        Line::Comes(Look::Byte, 0x08),
-        Line::Do(Act::Pin { pin: 1, level: 0 }),
-        Line::Do(Act::Read { rs: 0 }),
-        Line::Comes(Look::Byte, 0x08),
-        Line::Do(Act::Write { rs: 0, byte: 0x01 }),
-        Line::Do(Act::Read { rs: 0 }),
-        Line::Comes(Look::Byte, 0x0a),
-        Line::Do(Act::Write { rs: 0, byte: 0x03 }),
-        Line::Do(Act::Read { rs: 0 }),
-        Line::Comes(Look::Byte, 0x00),
-    ]
-}
+const CTS_STORED_WHILE_RESET: &[Line] = &[
+    Line::Do(Act::Pin { pin: 1, level: 1 }),
+    Line::Do(Act::Read { rs: 0 }),
+    Line::Comes(Reading::Byte(0x08)),
+    Line::Do(Act::Pin { pin: 1, level: 0 }),
+    Line::Do(Act::Read { rs: 0 }),
+    Line::Comes(Reading::Byte(0x08)),
+    Line::Do(Act::Write { rs: 0, byte: 0x01 }),
+    Line::Do(Act::Read { rs: 0 }),
+    Line::Comes(Reading::Byte(0x0a)),
+    Line::Do(Act::Write { rs: 0, byte: 0x03 }),
+    Line::Do(Act::Read { rs: 0 }),
+    Line::Comes(Reading::Byte(0x00)),
+];
 
 // With no match SM/DTR is high only with PC2 PC1 00.
-pub fn sm_dtr_settings() -> [Line; 10]
-    ensures { result ≡ sm_dtr_settings }
-{
-    [
-        Line::Do(Act::Write { rs: 1, byte: 0x00 }),
-        Line::Comes(Look::SmDtr, 1),
-        Line::Do(Act::Write { rs: 1, byte: 0x01 }),
-        Line::Comes(Look::SmDtr, 0),
-        Line::Do(Act::Write { rs: 1, byte: 0x02 }),
-        Line::Comes(Look::SmDtr, 0),
-        Line::Do(Act::Write { rs: 1, byte: 0x03 }),
-        Line::Comes(Look::SmDtr, 0),
-        Line::Do(Act::Write { rs: 1, byte: 0x00 }),
-        Line::Comes(Look::SmDtr, 1),
-    ]
-}
+const SM_DTR_SETTINGS: &[Line] = &[
+    Line::Do(Act::Write { rs: 1, byte: 0x00 }),
+    Line::Comes(Reading::SmDtr(true)),
+    Line::Do(Act::Write { rs: 1, byte: 0x01 }),
+    Line::Comes(Reading::SmDtr(false)),
+    Line::Do(Act::Write { rs: 1, byte: 0x02 }),
+    Line::Comes(Reading::SmDtr(false)),
+    Line::Do(Act::Write { rs: 1, byte: 0x03 }),
+    Line::Comes(Reading::SmDtr(false)),
+    Line::Do(Act::Write { rs: 1, byte: 0x00 }),
+    Line::Comes(Reading::SmDtr(true)),
+];
 
 // A match is remembered whatever PC2 and PC1 are and shows until the next bit.
-pub fn sm_dtr_match_until_next_bit() -> [Line; 21]
-    ensures { result ≡ sm_dtr_match_until_next_bit }
-{
-    [
-        Line::Do(Act::Write { rs: 0, byte: 0x43 }),
-        Line::Do(Act::Write { rs: 1, byte: 0x02 }),
-        Line::Do(Act::Write { rs: 0, byte: 0x83 }),
-        Line::Do(Act::Write { rs: 1, byte: 0x7f }),
-        Line::Do(Act::Write { rs: 0, byte: 0x03 }),
-        Line::Do(Act::Write { rs: 1, byte: 0x18 }),
-        Line::Do(Act::Write { rs: 0, byte: 0x00 }),
-        Line::Do(Act::Bit(0)),
-        Line::Comes(Look::SmDtr, 1),
-        Line::Do(Act::Write { rs: 1, byte: 0x19 }),
-        Line::Comes(Look::SmDtr, 1),
-        Line::Do(Act::Idle),
-        Line::Comes(Look::SmDtr, 1),
-        Line::Do(Act::Write { rs: 1, byte: 0x1a }),
-        Line::Comes(Look::SmDtr, 0),
-        Line::Do(Act::Write { rs: 1, byte: 0x1b }),
-        Line::Comes(Look::SmDtr, 0),
-        Line::Do(Act::Write { rs: 1, byte: 0x19 }),
-        Line::Comes(Look::SmDtr, 1),
-        Line::Do(Act::Bit(1)),
-        Line::Comes(Look::SmDtr, 0),
-    ]
-}
+const SM_DTR_MATCH_UNTIL_NEXT_BIT: &[Line] = &[
+    Line::Do(Act::Write { rs: 0, byte: 0x43 }),
+    Line::Do(Act::Write { rs: 1, byte: 0x02 }),
+    Line::Do(Act::Write { rs: 0, byte: 0x83 }),
+    Line::Do(Act::Write { rs: 1, byte: 0x7f }),
+    Line::Do(Act::Write { rs: 0, byte: 0x03 }),
+    Line::Do(Act::Write { rs: 1, byte: 0x18 }),
+    Line::Do(Act::Write { rs: 0, byte: 0x00 }),
+    Line::Do(Act::Bit(0)),
+    Line::Comes(Reading::SmDtr(true)),
+    Line::Do(Act::Write { rs: 1, byte: 0x19 }),
+    Line::Comes(Reading::SmDtr(true)),
+    Line::Do(Act::Idle),
+    Line::Comes(Reading::SmDtr(true)),
+    Line::Do(Act::Write { rs: 1, byte: 0x1a }),
+    Line::Comes(Reading::SmDtr(false)),
+    Line::Do(Act::Write { rs: 1, byte: 0x1b }),
+    Line::Comes(Reading::SmDtr(false)),
+    Line::Do(Act::Write { rs: 1, byte: 0x19 }),
+    Line::Comes(Reading::SmDtr(true)),
+    Line::Do(Act::Bit(1)),
+    Line::Comes(Reading::SmDtr(false)),
+];
 
 // A match shows no more when the receiver goes off.
-pub fn sm_dtr_match_ends_with_off() -> [Line; 19]
-    ensures { result ≡ sm_dtr_match_ends_with_off }
-{
-    [
-        Line::Do(Act::Write { rs: 0, byte: 0x43 }),
-        Line::Do(Act::Write { rs: 1, byte: 0x02 }),
-        Line::Do(Act::Write { rs: 0, byte: 0x83 }),
-        Line::Do(Act::Write { rs: 1, byte: 0x7f }),
-        Line::Do(Act::Write { rs: 0, byte: 0x03 }),
-        Line::Do(Act::Write { rs: 1, byte: 0x19 }),
-        Line::Do(Act::Write { rs: 0, byte: 0x00 }),
-        Line::Do(Act::Bit(0)),
-        Line::Comes(Look::SmDtr, 1),
-        Line::Do(Act::Write { rs: 0, byte: 0x08 }),
-        Line::Comes(Look::SmDtr, 0),
-        Line::Do(Act::Write { rs: 0, byte: 0x00 }),
-        Line::Comes(Look::SmDtr, 0),
-        Line::Do(Act::Bit(0)),
-        Line::Comes(Look::SmDtr, 1),
-        Line::Do(Act::Pin { pin: 2, level: 1 }),
-        Line::Comes(Look::SmDtr, 0),
-        Line::Do(Act::Pin { pin: 2, level: 0 }),
-        Line::Comes(Look::SmDtr, 0),
-    ]
-}
+const SM_DTR_MATCH_ENDS_WITH_OFF: &[Line] = &[
+    Line::Do(Act::Write { rs: 0, byte: 0x43 }),
+    Line::Do(Act::Write { rs: 1, byte: 0x02 }),
+    Line::Do(Act::Write { rs: 0, byte: 0x83 }),
+    Line::Do(Act::Write { rs: 1, byte: 0x7f }),
+    Line::Do(Act::Write { rs: 0, byte: 0x03 }),
+    Line::Do(Act::Write { rs: 1, byte: 0x19 }),
+    Line::Do(Act::Write { rs: 0, byte: 0x00 }),
+    Line::Do(Act::Bit(0)),
+    Line::Comes(Reading::SmDtr(true)),
+    Line::Do(Act::Write { rs: 0, byte: 0x08 }),
+    Line::Comes(Reading::SmDtr(false)),
+    Line::Do(Act::Write { rs: 0, byte: 0x00 }),
+    Line::Comes(Reading::SmDtr(false)),
+    Line::Do(Act::Bit(0)),
+    Line::Comes(Reading::SmDtr(true)),
+    Line::Do(Act::Pin { pin: 2, level: 1 }),
+    Line::Comes(Reading::SmDtr(false)),
+    Line::Do(Act::Pin { pin: 2, level: 0 }),
+    Line::Comes(Reading::SmDtr(false)),
+];
 
 // With RIE the interrupt follows RDA.
-pub fn receiver_interrupt() -> [Line; 16]
-    ensures { result ≡ receiver_interrupt }
-{
-    [
-        Line::Do(Act::Write { rs: 0, byte: 0x43 }),
-        Line::Do(Act::Write { rs: 1, byte: 0x01 }),
-        Line::Do(Act::Write { rs: 0, byte: 0x03 }),
-        Line::Do(Act::Write { rs: 1, byte: 0x1c }),
-        Line::Do(Act::Write { rs: 0, byte: 0x00 }),
-        Line::Do(Act::Write { rs: 0, byte: 0x20 }),
-        Line::Comes(Look::Interrupt, 0),
-        Line::Do(Act::Character(0x55)),
-        Line::Comes(Look::Interrupt, 0),
-        Line::Do(Act::Idle),
-        Line::Comes(Look::Interrupt, 1),
-        Line::Do(Act::Read { rs: 0 }),
-        Line::Comes(Look::Byte, 0x83),
-        Line::Do(Act::Read { rs: 1 }),
-        Line::Comes(Look::Byte, 0x55),
-        Line::Comes(Look::Interrupt, 0),
-    ]
-}
+const RECEIVER_INTERRUPT: &[Line] = &[
+    Line::Do(Act::Write { rs: 0, byte: 0x43 }),
+    Line::Do(Act::Write { rs: 1, byte: 0x01 }),
+    Line::Do(Act::Write { rs: 0, byte: 0x03 }),
+    Line::Do(Act::Write { rs: 1, byte: 0x1c }),
+    Line::Do(Act::Write { rs: 0, byte: 0x00 }),
+    Line::Do(Act::Write { rs: 0, byte: 0x20 }),
+    Line::Comes(Reading::Interrupt(false)),
+    Line::Do(Act::Character(0x55)),
+    Line::Comes(Reading::Interrupt(false)),
+    Line::Do(Act::Idle),
+    Line::Comes(Reading::Interrupt(true)),
+    Line::Do(Act::Read { rs: 0 }),
+    Line::Comes(Reading::Byte(0x83)),
+    Line::Do(Act::Read { rs: 1 }),
+    Line::Comes(Reading::Byte(0x55)),
+    Line::Comes(Reading::Interrupt(false)),
+];
 
 // With TIE the interrupt follows TDRA.
-pub fn transmitter_interrupt() -> [Line; 17]
-    ensures { result ≡ transmitter_interrupt }
-{
-    [
-        Line::Do(Act::Write { rs: 0, byte: 0x43 }),
-        Line::Do(Act::Write { rs: 1, byte: 0x01 }),
-        Line::Do(Act::Write { rs: 0, byte: 0x03 }),
-        Line::Do(Act::Write { rs: 1, byte: 0x1c }),
-        Line::Do(Act::Write { rs: 0, byte: 0xd0 }),
-        Line::Comes(Look::Interrupt, 1),
-        Line::Do(Act::Read { rs: 0 }),
-        Line::Comes(Look::Byte, 0x82),
-        Line::Do(Act::Write { rs: 1, byte: 0x55 }),
-        Line::Comes(Look::Interrupt, 0),
-        Line::Do(Act::Read { rs: 0 }),
-        Line::Comes(Look::Byte, 0x00),
-        Line::Do(Act::Idle),
-        Line::Comes(Look::Interrupt, 1),
-        Line::Do(Act::Write { rs: 0, byte: 0x12 }),
-        Line::Comes(Look::Interrupt, 0),
-        Line::Comes(Look::QueueCode, 2),
-    ]
-}
+const TRANSMITTER_INTERRUPT: &[Line] = &[
+    Line::Do(Act::Write { rs: 0, byte: 0x43 }),
+    Line::Do(Act::Write { rs: 1, byte: 0x01 }),
+    Line::Do(Act::Write { rs: 0, byte: 0x03 }),
+    Line::Do(Act::Write { rs: 1, byte: 0x1c }),
+    Line::Do(Act::Write { rs: 0, byte: 0xd0 }),
+    Line::Comes(Reading::Interrupt(true)),
+    Line::Do(Act::Read { rs: 0 }),
+    Line::Comes(Reading::Byte(0x82)),
+    Line::Do(Act::Write { rs: 1, byte: 0x55 }),
+    Line::Comes(Reading::Interrupt(false)),
+    Line::Do(Act::Read { rs: 0 }),
+    Line::Comes(Reading::Byte(0x00)),
+    Line::Do(Act::Idle),
+    Line::Comes(Reading::Interrupt(true)),
+    Line::Do(Act::Write { rs: 0, byte: 0x12 }),
+    Line::Comes(Reading::Interrupt(false)),
+    Line::Comes(Reading::Queue(QueueCode::Cleared)),
+];
 
 // With EIE an overrun interrupts until a Status read and a data read.
-pub fn overrun_interrupt() -> [Line; 17]
-    ensures { result ≡ overrun_interrupt }
-{
-    [
-        Line::Do(Act::Write { rs: 0, byte: 0x43 }),
-        Line::Do(Act::Write { rs: 1, byte: 0x01 }),
-        Line::Do(Act::Write { rs: 0, byte: 0x03 }),
-        Line::Do(Act::Write { rs: 1, byte: 0x1c }),
-        Line::Do(Act::Write { rs: 0, byte: 0x00 }),
-        Line::Do(Act::Write { rs: 1, byte: 0x9c }),
-        Line::Do(Act::Character(0x01)),
-        Line::Comes(Look::Interrupt, 0),
-        Line::Do(Act::Character(0x02)),
-        Line::Comes(Look::Interrupt, 1),
-        Line::Do(Act::Read { rs: 0 }),
-        Line::Comes(Look::Byte, 0xa2),
-        Line::Comes(Look::Interrupt, 1),
-        Line::Do(Act::Read { rs: 1 }),
-        Line::Comes(Look::Interrupt, 0),
-        Line::Do(Act::Read { rs: 0 }),
-        Line::Comes(Look::Byte, 0x02),
-    ]
-}
+const OVERRUN_INTERRUPT: &[Line] = &[
+    Line::Do(Act::Write { rs: 0, byte: 0x43 }),
+    Line::Do(Act::Write { rs: 1, byte: 0x01 }),
+    Line::Do(Act::Write { rs: 0, byte: 0x03 }),
+    Line::Do(Act::Write { rs: 1, byte: 0x1c }),
+    Line::Do(Act::Write { rs: 0, byte: 0x00 }),
+    Line::Do(Act::Write { rs: 1, byte: 0x9c }),
+    Line::Do(Act::Character(0x01)),
+    Line::Comes(Reading::Interrupt(false)),
+    Line::Do(Act::Character(0x02)),
+    Line::Comes(Reading::Interrupt(true)),
+    Line::Do(Act::Read { rs: 0 }),
+    Line::Comes(Reading::Byte(0xa2)),
+    Line::Comes(Reading::Interrupt(true)),
+    Line::Do(Act::Read { rs: 1 }),
+    Line::Comes(Reading::Interrupt(false)),
+    Line::Do(Act::Read { rs: 0 }),
+    Line::Comes(Reading::Byte(0x02)),
+];
 
 // A RESET level equal to the present one resets nothing.
-pub fn same_reset_level() -> [Line; 21]
-    ensures { result ≡ same_reset_level }
-{
-    [
-        Line::Do(Act::Write { rs: 0, byte: 0x43 }),
-        Line::Do(Act::Write { rs: 1, byte: 0x01 }),
-        Line::Do(Act::Write { rs: 0, byte: 0x03 }),
-        Line::Do(Act::Write { rs: 1, byte: 0x1c }),
-        Line::Do(Act::Write { rs: 0, byte: 0xc0 }),
-        Line::Do(Act::Character(0x41)),
-        Line::Do(Act::Write { rs: 1, byte: 0x55 }),
-        Line::Do(Act::Pin { pin: 0, level: 1 }),
-        Line::Comes(Look::ReceiveCode, 0),
-        Line::Comes(Look::QueueCode, 0),
-        Line::Comes(Look::Waiting(Place::One), 1),
-        Line::Do(Act::Pin { pin: 0, level: 0 }),
-        Line::Comes(Look::ReceiveCode, 5),
-        Line::Comes(Look::QueueCode, 2),
-        Line::Do(Act::Write { rs: 1, byte: 0x66 }),
-        Line::Comes(Look::QueueCode, 0),
-        Line::Do(Act::Pin { pin: 0, level: 0 }),
-        Line::Comes(Look::QueueCode, 0),
-        Line::Do(Act::Write { rs: 0, byte: 0xc2 }),
-        Line::Comes(Look::QueueCode, 2),
-        Line::Comes(Look::Queued(Field::First), 2),
-    ]
-}
+const SAME_RESET_LEVEL: &[Line] = &[
+    Line::Do(Act::Write { rs: 0, byte: 0x43 }),
+    Line::Do(Act::Write { rs: 1, byte: 0x01 }),
+    Line::Do(Act::Write { rs: 0, byte: 0x03 }),
+    Line::Do(Act::Write { rs: 1, byte: 0x1c }),
+    Line::Do(Act::Write { rs: 0, byte: 0xc0 }),
+    Line::Do(Act::Character(0x41)),
+    Line::Do(Act::Write { rs: 1, byte: 0x55 }),
+    Line::Do(Act::Pin { pin: 0, level: 1 }),
+    Line::Comes(Reading::Receive(ReceiveCode::Nothing)),
+    Line::Comes(Reading::Queue(QueueCode::Nothing)),
+    Line::Comes(Reading::Waiting(Place::One, Some(1))),
+    Line::Do(Act::Pin { pin: 0, level: 0 }),
+    Line::Comes(Reading::Receive(ReceiveCode::Cleared)),
+    Line::Comes(Reading::Queue(QueueCode::Cleared)),
+    Line::Do(Act::Write { rs: 1, byte: 0x66 }),
+    Line::Comes(Reading::Queue(QueueCode::Nothing)),
+    Line::Do(Act::Pin { pin: 0, level: 0 }),
+    Line::Comes(Reading::Queue(QueueCode::Nothing)),
+    Line::Do(Act::Write { rs: 0, byte: 0xc2 }),
+    Line::Comes(Reading::Queue(QueueCode::Cleared)),
+    Line::Comes(Reading::Queued(Field::First, 2)),
+];
 
 // A read with register select 2 is refused, takes nothing and moves nothing.
-pub fn refused_read_select() -> [Line; 19]
-    ensures { result ≡ refused_read_select }
-{
-    [
-        Line::Do(Act::Write { rs: 0, byte: 0x43 }),
-        Line::Do(Act::Write { rs: 1, byte: 0x01 }),
-        Line::Do(Act::Write { rs: 0, byte: 0x03 }),
-        Line::Do(Act::Write { rs: 1, byte: 0x1c }),
-        Line::Do(Act::Write { rs: 0, byte: 0x00 }),
-        Line::Do(Act::Character(0x77)),
-        Line::Do(Act::Read { rs: 2 }),
-        Line::Comes(Look::Refusal, 1),
-        Line::Comes(Look::Byte, 0),
-        Line::Comes(Look::Waiting(Place::One), 1),
-        Line::Do(Act::Idle),
-        Line::Comes(Look::Refusal, 0),
-        Line::Do(Act::Read { rs: 2 }),
-        Line::Comes(Look::Refusal, 1),
-        Line::Comes(Look::Waiting(Place::Three), 1),
-        Line::Do(Act::Read { rs: 1 }),
-        Line::Comes(Look::Byte, 0x77),
-        Line::Comes(Look::ReceiveCode, 1),
-        Line::Comes(Look::Received(Field::First), 1),
-    ]
-}
+const REFUSED_READ_SELECT: &[Line] = &[
+    Line::Do(Act::Write { rs: 0, byte: 0x43 }),
+    Line::Do(Act::Write { rs: 1, byte: 0x01 }),
+    Line::Do(Act::Write { rs: 0, byte: 0x03 }),
+    Line::Do(Act::Write { rs: 1, byte: 0x1c }),
+    Line::Do(Act::Write { rs: 0, byte: 0x00 }),
+    Line::Do(Act::Character(0x77)),
+    Line::Do(Act::Read { rs: 2 }),
+    Line::Comes(Reading::Refusal(Some(Refusal::NotABit))),
+    Line::Comes(Reading::Byte(0)),
+    Line::Comes(Reading::Waiting(Place::One, Some(1))),
+    Line::Do(Act::Idle),
+    Line::Comes(Reading::Refusal(None)),
+    Line::Do(Act::Read { rs: 2 }),
+    Line::Comes(Reading::Refusal(Some(Refusal::NotABit))),
+    Line::Comes(Reading::Waiting(Place::Three, Some(1))),
+    Line::Do(Act::Read { rs: 1 }),
+    Line::Comes(Reading::Byte(0x77)),
+    Line::Comes(Reading::Receive(ReceiveCode::Delivered)),
+    Line::Comes(Reading::Received(Field::First, 1)),
+];
 
 // A refused read neither clears nor drops an arm.
-pub fn refused_read_keeps_arm() -> [Line; 15]
-    ensures { result ≡ refused_read_keeps_arm }
-{
-    [
-        Line::Do(Act::Write { rs: 0, byte: 0x43 }),
-        Line::Do(Act::Write { rs: 1, byte: 0x01 }),
-        Line::Do(Act::Write { rs: 0, byte: 0x03 }),
-        Line::Do(Act::Write { rs: 1, byte: 0x1c }),
-        Line::Do(Act::Write { rs: 0, byte: 0x00 }),
-        Line::Do(Act::Character(0x01)),
-        Line::Do(Act::Character(0x02)),
-        Line::Do(Act::Read { rs: 0 }),
-        Line::Comes(Look::Byte, 0x22),
-        Line::Do(Act::Read { rs: 2 }),
-        Line::Comes(Look::Refusal, 1),
-        Line::Do(Act::Read { rs: 1 }),
-        Line::Comes(Look::Byte, 0x00),
-        Line::Do(Act::Read { rs: 0 }),
-        Line::Comes(Look::Byte, 0x02),
-    ]
-}
+const REFUSED_READ_KEEPS_ARM: &[Line] = &[
+    Line::Do(Act::Write { rs: 0, byte: 0x43 }),
+    Line::Do(Act::Write { rs: 1, byte: 0x01 }),
+    Line::Do(Act::Write { rs: 0, byte: 0x03 }),
+    Line::Do(Act::Write { rs: 1, byte: 0x1c }),
+    Line::Do(Act::Write { rs: 0, byte: 0x00 }),
+    Line::Do(Act::Character(0x01)),
+    Line::Do(Act::Character(0x02)),
+    Line::Do(Act::Read { rs: 0 }),
+    Line::Comes(Reading::Byte(0x22)),
+    Line::Do(Act::Read { rs: 2 }),
+    Line::Comes(Reading::Refusal(Some(Refusal::NotABit))),
+    Line::Do(Act::Read { rs: 1 }),
+    Line::Comes(Reading::Byte(0x00)),
+    Line::Do(Act::Read { rs: 0 }),
+    Line::Comes(Reading::Byte(0x02)),
+];
 
 // A write with register select 2 is refused, writes nothing and takes no number.
-pub fn refused_write_select() -> [Line; 19]
-    ensures { result ≡ refused_write_select }
-{
-    [
-        Line::Do(Act::Write { rs: 0, byte: 0x43 }),
-        Line::Do(Act::Write { rs: 1, byte: 0x01 }),
-        Line::Do(Act::Write { rs: 0, byte: 0x03 }),
-        Line::Do(Act::Write { rs: 1, byte: 0x1c }),
-        Line::Do(Act::Write { rs: 0, byte: 0xc0 }),
-        Line::Do(Act::Write { rs: 1, byte: 0xa1 }),
-        Line::Do(Act::Write { rs: 2, byte: 0x03 }),
-        Line::Comes(Look::Refusal, 1),
-        Line::Comes(Look::QueueCode, 0),
-        Line::Do(Act::Read { rs: 0 }),
-        Line::Comes(Look::Byte, 0x00),
-        Line::Do(Act::Write { rs: 2, byte: 0xa2 }),
-        Line::Comes(Look::Refusal, 1),
-        Line::Do(Act::Write { rs: 1, byte: 0xa3 }),
-        Line::Comes(Look::QueueCode, 1),
-        Line::Comes(Look::Queued(Field::First), 1),
-        Line::Do(Act::Write { rs: 0, byte: 0xc2 }),
-        Line::Comes(Look::QueueCode, 2),
-        Line::Comes(Look::Queued(Field::First), 2),
-    ]
-}
+const REFUSED_WRITE_SELECT: &[Line] = &[
+    Line::Do(Act::Write { rs: 0, byte: 0x43 }),
+    Line::Do(Act::Write { rs: 1, byte: 0x01 }),
+    Line::Do(Act::Write { rs: 0, byte: 0x03 }),
+    Line::Do(Act::Write { rs: 1, byte: 0x1c }),
+    Line::Do(Act::Write { rs: 0, byte: 0xc0 }),
+    Line::Do(Act::Write { rs: 1, byte: 0xa1 }),
+    Line::Do(Act::Write { rs: 2, byte: 0x03 }),
+    Line::Comes(Reading::Refusal(Some(Refusal::NotABit))),
+    Line::Comes(Reading::Queue(QueueCode::Nothing)),
+    Line::Do(Act::Read { rs: 0 }),
+    Line::Comes(Reading::Byte(0x00)),
+    Line::Do(Act::Write { rs: 2, byte: 0xa2 }),
+    Line::Comes(Reading::Refusal(Some(Refusal::NotABit))),
+    Line::Do(Act::Write { rs: 1, byte: 0xa3 }),
+    Line::Comes(Reading::Queue(QueueCode::Overwritten)),
+    Line::Comes(Reading::Queued(Field::First, 1)),
+    Line::Do(Act::Write { rs: 0, byte: 0xc2 }),
+    Line::Comes(Reading::Queue(QueueCode::Cleared)),
+    Line::Comes(Reading::Queued(Field::First, 2)),
+];
 
 // A received bit 2 is refused and does not count.
-pub fn refused_bit() -> [Line; 21]
-    ensures { result ≡ refused_bit }
-{
-    [
-        Line::Do(Act::Write { rs: 0, byte: 0x43 }),
-        Line::Do(Act::Write { rs: 1, byte: 0x01 }),
-        Line::Do(Act::Write { rs: 0, byte: 0x03 }),
-        Line::Do(Act::Write { rs: 1, byte: 0x1c }),
-        Line::Do(Act::Write { rs: 0, byte: 0x00 }),
-        Line::Do(Act::Bit(1)),
-        Line::Do(Act::Bit(1)),
-        Line::Do(Act::Bit(0)),
-        Line::Do(Act::Bit(0)),
-        Line::Do(Act::Bit(2)),
-        Line::Comes(Look::Refusal, 1),
-        Line::Do(Act::Bit(1)),
-        Line::Do(Act::Bit(0)),
-        Line::Do(Act::Bit(1)),
-        Line::Comes(Look::Waiting(Place::One), 0),
-        Line::Do(Act::Bit(0)),
-        Line::Comes(Look::Refusal, 0),
-        Line::Comes(Look::Waiting(Place::One), 1),
-        Line::Do(Act::Idle),
-        Line::Do(Act::Read { rs: 1 }),
-        Line::Comes(Look::Byte, 0x53),
-    ]
-}
+const REFUSED_BIT: &[Line] = &[
+    Line::Do(Act::Write { rs: 0, byte: 0x43 }),
+    Line::Do(Act::Write { rs: 1, byte: 0x01 }),
+    Line::Do(Act::Write { rs: 0, byte: 0x03 }),
+    Line::Do(Act::Write { rs: 1, byte: 0x1c }),
+    Line::Do(Act::Write { rs: 0, byte: 0x00 }),
+    Line::Do(Act::Bit(1)),
+    Line::Do(Act::Bit(1)),
+    Line::Do(Act::Bit(0)),
+    Line::Do(Act::Bit(0)),
+    Line::Do(Act::Bit(2)),
+    Line::Comes(Reading::Refusal(Some(Refusal::NotABit))),
+    Line::Do(Act::Bit(1)),
+    Line::Do(Act::Bit(0)),
+    Line::Do(Act::Bit(1)),
+    Line::Comes(Reading::Waiting(Place::One, None)),
+    Line::Do(Act::Bit(0)),
+    Line::Comes(Reading::Refusal(None)),
+    Line::Comes(Reading::Waiting(Place::One, Some(1))),
+    Line::Do(Act::Idle),
+    Line::Do(Act::Read { rs: 1 }),
+    Line::Comes(Reading::Byte(0x53)),
+];
 
 // A pin level 2 is refused and changes no pin.
-pub fn refused_level() -> [Line; 16]
-    ensures { result ≡ refused_level }
-{
-    [
-        Line::Do(Act::Write { rs: 0, byte: 0x43 }),
-        Line::Do(Act::Write { rs: 1, byte: 0x01 }),
-        Line::Do(Act::Write { rs: 0, byte: 0x03 }),
-        Line::Do(Act::Write { rs: 1, byte: 0x1c }),
-        Line::Do(Act::Write { rs: 0, byte: 0x00 }),
-        Line::Do(Act::Character(0x41)),
-        Line::Do(Act::Pin { pin: 0, level: 2 }),
-        Line::Comes(Look::Refusal, 1),
-        Line::Comes(Look::ReceiveCode, 0),
-        Line::Comes(Look::Waiting(Place::One), 1),
-        Line::Do(Act::Pin { pin: 1, level: 2 }),
-        Line::Comes(Look::Refusal, 1),
-        Line::Do(Act::Pin { pin: 2, level: 2 }),
-        Line::Comes(Look::Refusal, 1),
-        Line::Do(Act::Read { rs: 0 }),
-        Line::Comes(Look::Byte, 0x02),
-    ]
-}
+const REFUSED_LEVEL: &[Line] = &[
+    Line::Do(Act::Write { rs: 0, byte: 0x43 }),
+    Line::Do(Act::Write { rs: 1, byte: 0x01 }),
+    Line::Do(Act::Write { rs: 0, byte: 0x03 }),
+    Line::Do(Act::Write { rs: 1, byte: 0x1c }),
+    Line::Do(Act::Write { rs: 0, byte: 0x00 }),
+    Line::Do(Act::Character(0x41)),
+    Line::Do(Act::Pin { pin: 0, level: 2 }),
+    Line::Comes(Reading::Refusal(Some(Refusal::NotABit))),
+    Line::Comes(Reading::Receive(ReceiveCode::Nothing)),
+    Line::Comes(Reading::Waiting(Place::One, Some(1))),
+    Line::Do(Act::Pin { pin: 1, level: 2 }),
+    Line::Comes(Reading::Refusal(Some(Refusal::NotABit))),
+    Line::Do(Act::Pin { pin: 2, level: 2 }),
+    Line::Comes(Reading::Refusal(Some(Refusal::NotABit))),
+    Line::Do(Act::Read { rs: 0 }),
+    Line::Comes(Reading::Byte(0x02)),
+];
 
 // A level on pin 3 is refused by 2 and changes nothing.
-pub fn refused_pin() -> [Line; 18]
-    ensures { result ≡ refused_pin }
-{
-    [
-        Line::Do(Act::Write { rs: 0, byte: 0x43 }),
-        Line::Do(Act::Write { rs: 1, byte: 0x01 }),
-        Line::Do(Act::Write { rs: 0, byte: 0x03 }),
-        Line::Do(Act::Write { rs: 1, byte: 0x1c }),
-        Line::Do(Act::Write { rs: 0, byte: 0x00 }),
-        Line::Do(Act::Character(0x41)),
-        Line::Do(Act::Pin { pin: 3, level: 0 }),
-        Line::Comes(Look::Refusal, 2),
-        Line::Do(Act::Pin { pin: 3, level: 1 }),
-        Line::Comes(Look::Refusal, 2),
-        Line::Comes(Look::Interrupt, 0),
-        Line::Comes(Look::Waiting(Place::One), 1),
-        Line::Do(Act::Idle),
-        Line::Comes(Look::Refusal, 0),
-        Line::Do(Act::Read { rs: 0 }),
-        Line::Comes(Look::Byte, 0x03),
-        Line::Do(Act::Read { rs: 1 }),
-        Line::Comes(Look::Byte, 0x41),
-    ]
-}
+const REFUSED_PIN: &[Line] = &[
+    Line::Do(Act::Write { rs: 0, byte: 0x43 }),
+    Line::Do(Act::Write { rs: 1, byte: 0x01 }),
+    Line::Do(Act::Write { rs: 0, byte: 0x03 }),
+    Line::Do(Act::Write { rs: 1, byte: 0x1c }),
+    Line::Do(Act::Write { rs: 0, byte: 0x00 }),
+    Line::Do(Act::Character(0x41)),
+    Line::Do(Act::Pin { pin: 3, level: 0 }),
+    Line::Comes(Reading::Refusal(Some(Refusal::NoSuchPin))),
+    Line::Do(Act::Pin { pin: 3, level: 1 }),
+    Line::Comes(Reading::Refusal(Some(Refusal::NoSuchPin))),
+    Line::Comes(Reading::Interrupt(false)),
+    Line::Comes(Reading::Waiting(Place::One, Some(1))),
+    Line::Do(Act::Idle),
+    Line::Comes(Reading::Refusal(None)),
+    Line::Do(Act::Read { rs: 0 }),
+    Line::Comes(Reading::Byte(0x03)),
+    Line::Do(Act::Read { rs: 1 }),
+    Line::Comes(Reading::Byte(0x41)),
+];
 
 // Pin 3 with level 2 is refused by 2, pin 0 with level 2 by 1.
-pub fn refused_pin_before_level() -> [Line; 19]
-    ensures { result ≡ refused_pin_before_level }
+const REFUSED_PIN_BEFORE_LEVEL: &[Line] = &[
+    Line::Do(Act::Write { rs: 0, byte: 0x43 }),
+    Line::Do(Act::Write { rs: 1, byte: 0x01 }),
+    Line::Do(Act::Write { rs: 0, byte: 0x03 }),
+    Line::Do(Act::Write { rs: 1, byte: 0x1c }),
+    Line::Do(Act::Write { rs: 0, byte: 0x00 }),
+    Line::Do(Act::Character(0x42)),
+    Line::Do(Act::Pin { pin: 3, level: 2 }),
+    Line::Comes(Reading::Refusal(Some(Refusal::NoSuchPin))),
+    Line::Do(Act::Pin {
+        pin: 255,
+        level: 255,
+    }),
+    Line::Comes(Reading::Refusal(Some(Refusal::NoSuchPin))),
+    Line::Do(Act::Pin { pin: 0, level: 2 }),
+    Line::Comes(Reading::Refusal(Some(Refusal::NotABit))),
+    Line::Comes(Reading::Waiting(Place::One, Some(1))),
+    Line::Do(Act::Idle),
+    Line::Do(Act::Read { rs: 1 }),
+    Line::Comes(Reading::Byte(0x42)),
+    Line::Comes(Reading::Received(Field::First, 1)),
+    Line::Do(Act::Read { rs: 0 }),
+    Line::Comes(Reading::Byte(0x02)),
+];
+
+// Each with what it shows.
+static EXAMPLES: [Example; 52] = [
+    Example {
+        title: "after an overrun the first two characters and the last one are delivered",
+        script: OVERRUN_KEEPS_ARRIVING,
+    },
+    Example {
+        title: "overrun comes with place 1 full even while places 2 and 3 are empty",
+        script: OVERRUN_WITH_EMPTY_PLACES,
+    },
+    Example {
+        title: "a second data read without an idle cycle repeats the last byte",
+        script: SECOND_READ_REPEATS,
+    },
+    Example {
+        title: "a data read without a Status read before it clears no overrun",
+        script: UNARMED_OVERRUN_STAYS,
+    },
+    Example {
+        title: "while RESET is low EIE stays 0, whatever is written",
+        script: RESET_LOW_HOLDS_ERROR_ENABLE,
+    },
+    Example {
+        title: "while RESET is low PC1 and PC2 stay 0, so SM/DTR is high",
+        script: RESET_LOW_HOLDS_PIN_CONTROL,
+    },
+    Example {
+        title: "while RESET is low external stays 0",
+        script: RESET_LOW_HOLDS_EXTERNAL,
+    },
+    Example {
+        title: "while RESET is low the sync code, Tx Sync and the form are written as ever",
+        script: RESET_LOW_WRITES_THE_REST,
+    },
+    Example {
+        title: "while RESET is low a 0 written to Tx Rs empties nothing and a 1 empties",
+        script: RESET_LOW_IGNORES_ZERO_FOR_TRANSMITTER,
+    },
+    Example {
+        title: "RESET falling tells received, queued and shifted numbers together",
+        script: RESET_FALLING_TELLS_ALL,
+    },
+    Example {
+        title: "one write resets the receiver and the transmitter",
+        script: BOTH_RESETS_IN_ONE_WRITE,
+    },
+    Example {
+        title: "a transmitter reset clears three waiting bytes, oldest first",
+        script: TRANSMITTER_RESET_TELLS_THREE,
+    },
+    Example {
+        title: "writing a reset bit as 1 resets also when it was set already",
+        script: RESET_AGAIN_STILL_CLEARS,
+    },
+    Example {
+        title: "the last byte taken outlives a receiver reset and RESET",
+        script: LAST_BYTE_OUTLIVES_RESETS,
+    },
+    Example {
+        title: "in two-byte mode RDA needs places 2 and 3 full",
+        script: TWO_BYTE_RECEIVE,
+    },
+    Example {
+        title: "in two-byte mode TDRA needs places 1 and 2 empty",
+        script: TWO_BYTE_TRANSMIT,
+    },
+    Example {
+        title: "a stripped character gets a number and is no loss",
+        script: STRIPPED_WITHOUT_PARITY,
+    },
+    Example {
+        title: "with nine bits the parity bit does not matter for stripping",
+        script: STRIPPED_WITH_NINE_BITS,
+    },
+    Example {
+        title: "six bits with right odd parity are delivered without mark",
+        script: PARITY_RIGHT_SIX_ODD,
+    },
+    Example {
+        title: "six bits with wrong even parity are delivered with the mark",
+        script: PARITY_WRONG_SIX_EVEN,
+    },
+    Example {
+        title: "Status bit 6 shows the mark of the character in place 3 only",
+        script: PARITY_MARK_ONLY_OF_PLACE_THREE,
+    },
+    Example {
+        title: "a longer form written in the middle of a character ends it later",
+        script: FORM_LONGER_IN_THE_MIDDLE,
+    },
+    Example {
+        title: "a shorter form written in the middle of a character ends it at the next bit",
+        script: FORM_SHORTER_IN_THE_MIDDLE,
+    },
+    Example {
+        title: "changing external while the receiver is on restarts it",
+        script: EXTERNAL_CHANGED_RESTARTS,
+    },
+    Example {
+        title: "rewriting the same external does not restart the receiver",
+        script: EXTERNAL_SAME_GOES_ON,
+    },
+    Example {
+        title: "while Clear Sync is set bits are ignored, and its end restarts the receiver",
+        script: CLEAR_SYNC_IGNORES_BITS,
+    },
+    Example {
+        title: "a Status read and a data read clear the stored DCD, but the high level still shows",
+        script: DCD_STORED_AND_LEVEL,
+    },
+    Example {
+        title: "DCD rising again drops the arm",
+        script: DCD_RISING_DROPS_ARM,
+    },
+    Example {
+        title: "while DCD is high bits are ignored, and its fall restarts the receiver",
+        script: DCD_HIGH_IGNORES_BITS,
+    },
+    Example {
+        title: "a sync fill pulses underflow and sets TUF, and CTUF clears it",
+        script: UNDERFLOW_AND_CLEAR,
+    },
+    Example {
+        title: "with seven bits and parity the sync fill is the code alone",
+        script: SYNC_FILL_SEVEN_EVEN,
+    },
+    Example {
+        title: "a loaded word keeps its length when the form is changed",
+        script: WORD_KEEPS_LENGTH,
+    },
+    Example {
+        title: "each bit of a sent byte has code 1, the last one code 2",
+        script: SENT_BYTE_CODES,
+    },
+    Example {
+        title: "CTS rising cuts the byte that is being shifted, and held clocks show 1",
+        script: CTS_CUTS_SHIFTED_BYTE,
+    },
+    Example {
+        title: "CTS rising leaves the queue alone, and after its fall the next byte is sent",
+        script: CTS_KEEPS_QUEUE,
+    },
+    Example {
+        title: "CTS rising cuts also a byte of which no bit was shown, and tells nothing of a fill",
+        script: CTS_CUTS_LOADED_BYTE,
+    },
+    Example {
+        title: "with external a high CTS leaves TDRA alone",
+        script: CTS_WITH_EXTERNAL_KEEPS_TDRA,
+    },
+    Example {
+        title: "CTS rising is stored also while Tx Rs is set, and a transmitter reset clears it",
+        script: CTS_STORED_WHILE_RESET,
+    },
+    Example {
+        title: "with no match SM/DTR is high only with PC2 PC1 00",
+        script: SM_DTR_SETTINGS,
+    },
+    Example {
+        title: "a match is remembered whatever PC2 and PC1 are and shows until the next bit",
+        script: SM_DTR_MATCH_UNTIL_NEXT_BIT,
+    },
+    Example {
+        title: "a match shows no more when the receiver goes off",
+        script: SM_DTR_MATCH_ENDS_WITH_OFF,
+    },
+    Example {
+        title: "with RIE the interrupt follows RDA",
+        script: RECEIVER_INTERRUPT,
+    },
+    Example {
+        title: "with TIE the interrupt follows TDRA",
+        script: TRANSMITTER_INTERRUPT,
+    },
+    Example {
+        title: "with EIE an overrun interrupts until a Status read and a data read",
+        script: OVERRUN_INTERRUPT,
+    },
+    Example {
+        title: "a RESET level equal to the present one resets nothing",
+        script: SAME_RESET_LEVEL,
+    },
+    Example {
+        title: "a read with register select 2 is refused, takes nothing and moves nothing",
+        script: REFUSED_READ_SELECT,
+    },
+    Example {
+        title: "a refused read neither clears nor drops an arm",
+        script: REFUSED_READ_KEEPS_ARM,
+    },
+    Example {
+        title: "a write with register select 2 is refused, writes nothing and takes no number",
+        script: REFUSED_WRITE_SELECT,
+    },
+    Example {
+        title: "a received bit 2 is refused and does not count",
+        script: REFUSED_BIT,
+    },
+    Example {
+        title: "a pin level 2 is refused and changes no pin",
+        script: REFUSED_LEVEL,
+    },
+    Example {
+        title: "a level on pin 3 is refused by 2 and changes nothing",
+        script: REFUSED_PIN,
+    },
+    Example {
+        title: "pin 3 with level 2 is refused by 2, pin 0 with level 2 by 1",
+        script: REFUSED_PIN_BEFORE_LEVEL,
+    },
+];
+
+// Further examples. All that must come by them does come.
+pub fn examples() -> &'static [Example; 52]
+    ensures table { map entry_of result.now ≡ further }
+    ensures hold { FurtherHold }
 {
-    [
-        Line::Do(Act::Write { rs: 0, byte: 0x43 }),
-        Line::Do(Act::Write { rs: 1, byte: 0x01 }),
-        Line::Do(Act::Write { rs: 0, byte: 0x03 }),
-        Line::Do(Act::Write { rs: 1, byte: 0x1c }),
-        Line::Do(Act::Write { rs: 0, byte: 0x00 }),
-        Line::Do(Act::Character(0x42)),
-        Line::Do(Act::Pin { pin: 3, level: 2 }),
-        Line::Comes(Look::Refusal, 2),
-        Line::Do(Act::Pin {
-            pin: 255,
-            level: 255,
-        }),
-        Line::Comes(Look::Refusal, 2),
-        Line::Do(Act::Pin { pin: 0, level: 2 }),
-        Line::Comes(Look::Refusal, 1),
-        Line::Comes(Look::Waiting(Place::One), 1),
-        Line::Do(Act::Idle),
-        Line::Do(Act::Read { rs: 1 }),
-        Line::Comes(Look::Byte, 0x42),
-        Line::Comes(Look::Received(Field::First), 1),
-        Line::Do(Act::Read { rs: 0 }),
-        Line::Comes(Look::Byte, 0x02),
-    ]
+    &EXAMPLES
 }

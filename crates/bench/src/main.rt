@@ -1,16 +1,17 @@
 // Runs the bench examples on the adapter's calls, and prints what came and what should come.
 #![tactic(auto)]
 
+ghost use Rattle.std.specs.Prelude.{◌≤◌, length, IfOk};
+
 mod bench;
 mod further;
 mod play;
 mod script;
-mod topic;
 mod words;
 mod worked;
 
 use play::{all_agree, play};
-use topic::Topic;
+use script::Example;
 use words::Report;
 
 fn main(rt: HostRuntime) -> anyhow::Result<()> {
@@ -19,31 +20,30 @@ fn main(rt: HostRuntime) -> anyhow::Result<()> {
 
 fn run(rt: &HostRuntime) -> anyhow::Result<()> {
     println!(rt; "The worked examples of the rules:")?;
-    let worked = run_all(rt, &Topic::worked())?;
+    let worked = run_all(rt, worked::examples())?;
     println!(rt; "Further examples:")?;
-    let further = run_all(rt, &Topic::further())?;
-    let all = Topic::worked().len() + Topic::further().len();
-    let passed = worked.saturating_add(further);
+    let further = run_all(rt, further::examples())?;
+    let passed = worked + further;
+    let all = worked::examples().len() + further::examples().len();
     println!(rt; "{passed} of {all} examples came as they should.")?;
     Ok(())
 }
 
 // Runs examples, and answers how many came as they should.
-fn run_all(rt: &HostRuntime, topics: &[Topic]) -> anyhow::Result<usize> {
-    let mut passed: usize = 0;
-    for topic in topics {
-        let lines = topic.script(rt.alloc())?;
-        let checks = play(rt.alloc(), lines.as_slice())?;
+fn run_all(rt: &HostRuntime, examples: &[Example]) -> anyhow::Result<usize>
+    ensures { IfOk result (λ passed. passed ≤ length examples.now) }
+{
+    let mut passed = 0;
+    for example in examples {
+        let checks = play(rt.alloc(), example.script)?;
         let ok = all_agree(checks.as_slice());
-        rt.println(Report {
-            title: topic.title(),
-            lines: lines.as_slice(),
+        let report = Report {
+            example: *example,
             checks: checks.as_slice(),
             ok,
-        })?;
-        if ok {
-            passed = passed.saturating_add(1);
-        }
+        };
+        println!(rt; "{report}")?;
+        passed += usize::from(ok);
     }
     Ok(passed)
 }

@@ -1,12 +1,13 @@
 // Plays a script on a new adapter.
-ghost use Rattle.std.specs.Prelude.{◌≡◌};
-ghost use Rattle.bench.specs.Bench.{notes_of, Follows, Played, agreeing, agree};
+ghost use Rattle.std.specs.Prelude.{◌≡◌, ◌↔◌, IsTrue};
+ghost use Rattle.std.specs.List.{All};
+ghost use Rattle.bench.specs.Bench.{notes_of, Follows, Played, Agrees};
 
 use crate::bench::Bench;
 use crate::script::{Check, Line};
 use std::alloc::{AllocError, Global};
 
-// A script under way: the bench, and what came of each look so far.
+// A script under way: the bench, and what came at each reading so far.
 #[derive(Drop)]
 pub struct Trial {
     bench: Bench,
@@ -20,16 +21,16 @@ impl Trial {
     {
         match line {
             Line::Do(act) => self.bench.act(act),
-            Line::Comes(look, should) => {
-                let came = self.bench.look(look);
-                self.checks.push(Check { look, came, should })?;
+            Line::Comes(should) => {
+                let came = self.bench.look(should);
+                self.checks.push(Check { came, should })?;
             }
         }
         Ok(())
     }
 }
 
-// Does what the script says, and answers what came of each look.
+// Does what the script says, and answers what came at each reading.
 pub fn play(heap: Global, lines: &[Line]) -> Result<Vec<Check>, AllocError>
     ensures { Played lines.now result }
 {
@@ -45,17 +46,7 @@ pub fn play(heap: Global, lines: &[Line]) -> Result<Vec<Check>, AllocError>
 
 // Whether all came as they should.
 pub fn all_agree(checks: &[Check]) -> bool
-    ensures { result ≡ agree checks.now }
+    ensures { IsTrue result ↔ All Agrees checks.now }
 {
-    let mut ok = true;
-    for check in checks {
-        ok = ok_with(ok, *check);
-    }
-    ok
-}
-
-fn ok_with(ok: bool, check: Check) -> bool
-    ensures { result ≡ agreeing ok check }
-{
-    ok && check.came == check.should
+    checks.iter().all(|check| check.agrees())
 }

@@ -1,13 +1,13 @@
 // A script and what came of it, in words.
-use crate::script::{Act, Check, Field, Line, Look};
-use serial::queue::Place;
+use crate::script::{Act, Check, Example, Field, Line, Reading};
+use serial::case::Case;
+use serial::event::Refusal;
 use std::fmt;
 
 // An example that was played: one line.
-#[derive(Clone, Copy)]
+#[derive(Clone, Copy, Debug)]
 pub struct Report<'a> {
-    pub title: &'static str,
-    pub lines: &'a [Line],
+    pub example: Example,
     pub checks: &'a [Check],
     pub ok: bool,
 }
@@ -15,31 +15,28 @@ pub struct Report<'a> {
 impl fmt::Display for Report<'_> {
     fn fmt<W: fmt::Write>(&self, f: &mut fmt::Formatter<W>) -> fmt::Result {
         let verdict = if self.ok { "ok    " } else { "NOT OK" };
-        write!(f, "{verdict} {}. Done:", self.title)?;
-        for line in self.lines {
-            if let Line::Do(act) = *line {
-                write!(f, " {}", Doing(act))?;
+        write!(f, "{verdict} {}. Done:", self.example.title)?;
+        for line in self.example.script {
+            if let Line::Do(act) = line {
+                write!(f, " {act}")?;
             }
         }
         write!(f, ". Came:")?;
         for check in self.checks {
-            write!(f, " {}", Value(check.look, check.came))?;
+            write!(f, " {}", check.came)?;
         }
         write!(f, ". Should come:")?;
         for check in self.checks {
-            write!(f, " {}", Value(check.look, check.should))?;
+            write!(f, " {}", check.should)?;
         }
         write!(f, ".")
     }
 }
 
-// What is done. W and R are writes and reads with their register select.
-#[derive(Clone, Copy)]
-struct Doing(Act);
-
-impl fmt::Display for Doing {
+// W and R are writes and reads with their register select.
+impl fmt::Display for Act {
     fn fmt<W: fmt::Write>(&self, f: &mut fmt::Formatter<W>) -> fmt::Result {
-        match self.0 {
+        match *self {
             Act::Idle => write!(f, "idle"),
             Act::Read { rs } => write!(f, "R{rs}"),
             Act::Write { rs, byte } => write!(f, "W{rs}={byte:02X}h"),
@@ -51,44 +48,40 @@ impl fmt::Display for Doing {
     }
 }
 
-// A look with its number.
-#[derive(Clone, Copy)]
-struct Value(Look, u32);
-
-impl fmt::Display for Value {
+// A code and a refusal are printed as their numbers, no refusal and nobody as 0, and a signal as 0 or 1.
+impl fmt::Display for Reading {
     fn fmt<W: fmt::Write>(&self, f: &mut fmt::Formatter<W>) -> fmt::Result {
-        let number = self.1;
-        match self.0 {
-            Look::Byte => write!(f, "byte={number:02X}h"),
-            Look::Interrupt => write!(f, "interrupt={number}"),
-            Look::SmDtr => write!(f, "SM/DTR={number}"),
-            Look::Underflow => write!(f, "underflow={number}"),
-            Look::ReceiveCode => write!(f, "receive-code={number}"),
-            Look::Received(field) => write!(f, "received-{}={number}", ordinal(field)),
-            Look::QueueCode => write!(f, "queue-code={number}"),
-            Look::Queued(field) => write!(f, "queued-{}={number}", ordinal(field)),
-            Look::ShiftCode => write!(f, "shift-code={number}"),
-            Look::Shifted => write!(f, "shifted={number}"),
-            Look::Refusal => write!(f, "refusal={number}"),
-            Look::Line => write!(f, "line={number:b}"),
-            Look::Waiting(place) => write!(f, "place-{}={number}", place_of(place)),
-            Look::Shifting => write!(f, "shifting={number}"),
+        match *self {
+            Reading::Byte(byte) => write!(f, "byte={byte:02X}h"),
+            Reading::Interrupt(level) => write!(f, "interrupt={}", u8::from(level)),
+            Reading::SmDtr(level) => write!(f, "SM/DTR={}", u8::from(level)),
+            Reading::Underflow(level) => write!(f, "underflow={}", u8::from(level)),
+            Reading::Receive(code) => write!(f, "receive-code={}", code.number()),
+            Reading::Received(field, number) => write!(f, "received-{field}={number}"),
+            Reading::Queue(code) => write!(f, "queue-code={}", code.number()),
+            Reading::Queued(field, number) => write!(f, "queued-{field}={number}"),
+            Reading::Shift(code) => write!(f, "shift-code={}", code.number()),
+            Reading::Shifted(number) => write!(f, "shifted={number}"),
+            Reading::Refusal(refusal) => write!(
+                f,
+                "refusal={}",
+                refusal.map_or(0, Refusal::number)
+            ),
+            Reading::Line(bits) => write!(f, "line={bits:b}"),
+            Reading::Waiting(place, number) => {
+                write!(f, "place-{}={}", place.number(), number.unwrap_or(0))
+            }
+            Reading::Shifting(number) => write!(f, "shifting={}", number.unwrap_or(0)),
         }
     }
 }
 
-fn ordinal(field: Field) -> &'static str {
-    match field {
-        Field::First => "first",
-        Field::Second => "second",
-        Field::Third => "third",
-    }
-}
-
-fn place_of(place: Place) -> &'static str {
-    match place {
-        Place::One => "1",
-        Place::Two => "2",
-        Place::Three => "3",
+impl fmt::Display for Field {
+    fn fmt<W: fmt::Write>(&self, f: &mut fmt::Formatter<W>) -> fmt::Result {
+        match self {
+            Field::First => write!(f, "first"),
+            Field::Second => write!(f, "second"),
+            Field::Third => write!(f, "third"),
+        }
     }
 }

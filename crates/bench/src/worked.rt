@@ -1,269 +1,282 @@
 // The worked examples of the rules, each as in the table of specs/.
-ghost use Rattle.std.specs.Prelude.{◌≡◌};
-ghost use Rattle.bench.specs.Worked.{seven_with_even, seven_with_odd, six_with_odd, sync_fill_of_seven, sync_fill_of_nine, mark_fill, new_status, one_bit_to_sync, two_sync_codes, second_is_no_sync_code, newest_is_lost, loss_after_status, cts_is_stored, overwritten};
+ghost use Rattle.std.specs.Prelude.{◌≡◌, map};
+ghost use Rattle.bench.specs.Table.{entry_of, worked, WorkedHold};
 
-use crate::script::{Act, Field, Line, Look};
+use crate::script::{Act, Example, Field, Line, Reading};
 use serial::queue::Place;
+use serial::slip::{QueueCode, ReceiveCode, ShiftCode};
 
 // 41h in 7 with even parity is 10000010.
-pub fn seven_with_even() -> [Line; 9]
-    ensures { result ≡ seven_with_even }
-{
-    [
-        Line::Do(Act::Write { rs: 1, byte: 0x20 }),
-        Line::Do(Act::Write { rs: 0, byte: 0xc1 }),
-        Line::Do(Act::Write { rs: 1, byte: 0x41 }),
-        Line::Do(Act::Idle),
-        Line::Do(Act::Clocks(1)),
-        Line::Do(Act::Clocks(8)),
-        Line::Comes(Look::Line, 0b10000010),
-        Line::Comes(Look::ShiftCode, 2),
-        Line::Comes(Look::Shifted, 1),
-    ]
-}
+const SEVEN_WITH_EVEN: &[Line] = &[
+    Line::Do(Act::Write { rs: 1, byte: 0x20 }),
+    Line::Do(Act::Write { rs: 0, byte: 0xc1 }),
+    Line::Do(Act::Write { rs: 1, byte: 0x41 }),
+    Line::Do(Act::Idle),
+    Line::Do(Act::Clocks(1)),
+    Line::Do(Act::Clocks(8)),
+    Line::Comes(Reading::Line(0b10000010)),
+    Line::Comes(Reading::Shift(ShiftCode::LastBit)),
+    Line::Comes(Reading::Shifted(1)),
+];
 
 // 41h in 7 with odd parity is 10000011.
-pub fn seven_with_odd() -> [Line; 7]
-    ensures { result ≡ seven_with_odd }
-{
-    [
-        Line::Do(Act::Write { rs: 1, byte: 0x28 }),
-        Line::Do(Act::Write { rs: 0, byte: 0xc1 }),
-        Line::Do(Act::Write { rs: 1, byte: 0x41 }),
-        Line::Do(Act::Idle),
-        Line::Do(Act::Clocks(1)),
-        Line::Do(Act::Clocks(8)),
-        Line::Comes(Look::Line, 0b10000011),
-    ]
-}
+const SEVEN_WITH_ODD: &[Line] = &[
+    Line::Do(Act::Write { rs: 1, byte: 0x28 }),
+    Line::Do(Act::Write { rs: 0, byte: 0xc1 }),
+    Line::Do(Act::Write { rs: 1, byte: 0x41 }),
+    Line::Do(Act::Idle),
+    Line::Do(Act::Clocks(1)),
+    Line::Do(Act::Clocks(8)),
+    Line::Comes(Reading::Line(0b10000011)),
+];
 
 // FFh in 6 with odd parity is 1111111.
-pub fn six_with_odd() -> [Line; 7]
-    ensures { result ≡ six_with_odd }
-{
-    [
-        Line::Do(Act::Write { rs: 1, byte: 0x08 }),
-        Line::Do(Act::Write { rs: 0, byte: 0xc1 }),
-        Line::Do(Act::Write { rs: 1, byte: 0xff }),
-        Line::Do(Act::Idle),
-        Line::Do(Act::Clocks(1)),
-        Line::Do(Act::Clocks(7)),
-        Line::Comes(Look::Line, 0b1111111),
-    ]
-}
+const SIX_WITH_ODD: &[Line] = &[
+    Line::Do(Act::Write { rs: 1, byte: 0x08 }),
+    Line::Do(Act::Write { rs: 0, byte: 0xc1 }),
+    Line::Do(Act::Write { rs: 1, byte: 0xff }),
+    Line::Do(Act::Idle),
+    Line::Do(Act::Clocks(1)),
+    Line::Do(Act::Clocks(7)),
+    Line::Comes(Reading::Line(0b1111111)),
+];
 
 // The sync fill 16h in form 000 is 0110100.
-pub fn sync_fill_of_seven() -> [Line; 9]
-    ensures { result ≡ sync_fill_of_seven }
-{
-    [
-        Line::Do(Act::Write { rs: 0, byte: 0x83 }),
-        Line::Do(Act::Write { rs: 1, byte: 0x16 }),
-        Line::Do(Act::Write { rs: 0, byte: 0x03 }),
-        Line::Do(Act::Write { rs: 1, byte: 0x40 }),
-        Line::Do(Act::Write { rs: 0, byte: 0x01 }),
-        Line::Do(Act::Clocks(1)),
-        Line::Comes(Look::Underflow, 1),
-        Line::Do(Act::Clocks(7)),
-        Line::Comes(Look::Line, 0b0110100),
-    ]
-}
+const SYNC_FILL_OF_SEVEN: &[Line] = &[
+    Line::Do(Act::Write { rs: 0, byte: 0x83 }),
+    Line::Do(Act::Write { rs: 1, byte: 0x16 }),
+    Line::Do(Act::Write { rs: 0, byte: 0x03 }),
+    Line::Do(Act::Write { rs: 1, byte: 0x40 }),
+    Line::Do(Act::Write { rs: 0, byte: 0x01 }),
+    Line::Do(Act::Clocks(1)),
+    Line::Comes(Reading::Underflow(true)),
+    Line::Do(Act::Clocks(7)),
+    Line::Comes(Reading::Line(0b0110100)),
+];
 
 // The sync fill 16h in form 110 is 011010001.
-pub fn sync_fill_of_nine() -> [Line; 9]
-    ensures { result ≡ sync_fill_of_nine }
-{
-    [
-        Line::Do(Act::Write { rs: 0, byte: 0x83 }),
-        Line::Do(Act::Write { rs: 1, byte: 0x16 }),
-        Line::Do(Act::Write { rs: 0, byte: 0x03 }),
-        Line::Do(Act::Write { rs: 1, byte: 0x70 }),
-        Line::Do(Act::Write { rs: 0, byte: 0x01 }),
-        Line::Do(Act::Clocks(1)),
-        Line::Comes(Look::Underflow, 1),
-        Line::Do(Act::Clocks(9)),
-        Line::Comes(Look::Line, 0b011010001),
-    ]
-}
+const SYNC_FILL_OF_NINE: &[Line] = &[
+    Line::Do(Act::Write { rs: 0, byte: 0x83 }),
+    Line::Do(Act::Write { rs: 1, byte: 0x16 }),
+    Line::Do(Act::Write { rs: 0, byte: 0x03 }),
+    Line::Do(Act::Write { rs: 1, byte: 0x70 }),
+    Line::Do(Act::Write { rs: 0, byte: 0x01 }),
+    Line::Do(Act::Clocks(1)),
+    Line::Comes(Reading::Underflow(true)),
+    Line::Do(Act::Clocks(9)),
+    Line::Comes(Reading::Line(0b011010001)),
+];
 
 // The mark fill in form 110 is nine ones, and TUF stays 0.
-pub fn mark_fill() -> [Line; 8]
-    ensures { result ≡ mark_fill }
-{
-    [
-        Line::Do(Act::Write { rs: 1, byte: 0x30 }),
-        Line::Do(Act::Write { rs: 0, byte: 0x01 }),
-        Line::Do(Act::Clocks(1)),
-        Line::Comes(Look::Underflow, 0),
-        Line::Do(Act::Clocks(9)),
-        Line::Comes(Look::Line, 0b111111111),
-        Line::Do(Act::Read { rs: 0 }),
-        Line::Comes(Look::Byte, 0x02),
-    ]
-}
+const MARK_FILL: &[Line] = &[
+    Line::Do(Act::Write { rs: 1, byte: 0x30 }),
+    Line::Do(Act::Write { rs: 0, byte: 0x01 }),
+    Line::Do(Act::Clocks(1)),
+    Line::Comes(Reading::Underflow(false)),
+    Line::Do(Act::Clocks(9)),
+    Line::Comes(Reading::Line(0b111111111)),
+    Line::Do(Act::Read { rs: 0 }),
+    Line::Comes(Reading::Byte(0x02)),
+];
 
 // A new Status is 00h; after C1 = 00h it is 02h, and after C1 = 10h 82h.
-pub fn new_status() -> [Line; 8]
-    ensures { result ≡ new_status }
-{
-    [
-        Line::Do(Act::Read { rs: 0 }),
-        Line::Comes(Look::Byte, 0x00),
-        Line::Do(Act::Write { rs: 0, byte: 0x00 }),
-        Line::Do(Act::Read { rs: 0 }),
-        Line::Comes(Look::Byte, 0x02),
-        Line::Do(Act::Write { rs: 0, byte: 0x10 }),
-        Line::Do(Act::Read { rs: 0 }),
-        Line::Comes(Look::Byte, 0x82),
-    ]
-}
+const NEW_STATUS: &[Line] = &[
+    Line::Do(Act::Read { rs: 0 }),
+    Line::Comes(Reading::Byte(0x00)),
+    Line::Do(Act::Write { rs: 0, byte: 0x00 }),
+    Line::Do(Act::Read { rs: 0 }),
+    Line::Comes(Reading::Byte(0x02)),
+    Line::Do(Act::Write { rs: 0, byte: 0x10 }),
+    Line::Do(Act::Read { rs: 0 }),
+    Line::Comes(Reading::Byte(0x82)),
+];
 
 // Form 011, 1-sync, code 7Fh, restart, one bit 0: in sync.
-pub fn one_bit_to_sync() -> [Line; 17]
-    ensures { result ≡ one_bit_to_sync }
-{
-    [
-        Line::Do(Act::Write { rs: 0, byte: 0x83 }),
-        Line::Do(Act::Write { rs: 1, byte: 0x7f }),
-        Line::Do(Act::Write { rs: 0, byte: 0x43 }),
-        Line::Do(Act::Write { rs: 1, byte: 0x02 }),
-        Line::Do(Act::Write { rs: 0, byte: 0x03 }),
-        Line::Do(Act::Write { rs: 1, byte: 0x1d }),
-        Line::Do(Act::Write { rs: 0, byte: 0x00 }),
-        Line::Comes(Look::SmDtr, 0),
-        Line::Do(Act::Bit(0)),
-        Line::Comes(Look::SmDtr, 1),
-        Line::Do(Act::Character(0x41)),
-        Line::Comes(Look::Waiting(Place::One), 1),
-        Line::Do(Act::Idle),
-        Line::Do(Act::Read { rs: 1 }),
-        Line::Comes(Look::Byte, 0x41),
-        Line::Comes(Look::ReceiveCode, 1),
-        Line::Comes(Look::Received(Field::First), 1),
-    ]
-}
+const ONE_BIT_TO_SYNC: &[Line] = &[
+    Line::Do(Act::Write { rs: 0, byte: 0x83 }),
+    Line::Do(Act::Write { rs: 1, byte: 0x7f }),
+    Line::Do(Act::Write { rs: 0, byte: 0x43 }),
+    Line::Do(Act::Write { rs: 1, byte: 0x02 }),
+    Line::Do(Act::Write { rs: 0, byte: 0x03 }),
+    Line::Do(Act::Write { rs: 1, byte: 0x1d }),
+    Line::Do(Act::Write { rs: 0, byte: 0x00 }),
+    Line::Comes(Reading::SmDtr(false)),
+    Line::Do(Act::Bit(0)),
+    Line::Comes(Reading::SmDtr(true)),
+    Line::Do(Act::Character(0x41)),
+    Line::Comes(Reading::Waiting(Place::One, Some(1))),
+    Line::Do(Act::Idle),
+    Line::Do(Act::Read { rs: 1 }),
+    Line::Comes(Reading::Byte(0x41)),
+    Line::Comes(Reading::Receive(ReceiveCode::Delivered)),
+    Line::Comes(Reading::Received(Field::First, 1)),
+];
 
 // Form 011, code 16h, two sync codes asked for: after 16h, 16h comes 41h as number 1.
-pub fn two_sync_codes() -> [Line; 14]
-    ensures { result ≡ two_sync_codes }
-{
-    [
-        Line::Do(Act::Write { rs: 0, byte: 0x83 }),
-        Line::Do(Act::Write { rs: 1, byte: 0x16 }),
-        Line::Do(Act::Write { rs: 0, byte: 0x03 }),
-        Line::Do(Act::Write { rs: 1, byte: 0x1c }),
-        Line::Do(Act::Write { rs: 0, byte: 0x00 }),
-        Line::Do(Act::Character(0x16)),
-        Line::Do(Act::Character(0x16)),
-        Line::Do(Act::Character(0x41)),
-        Line::Comes(Look::Waiting(Place::One), 1),
-        Line::Do(Act::Idle),
-        Line::Do(Act::Read { rs: 1 }),
-        Line::Comes(Look::Byte, 0x41),
-        Line::Comes(Look::ReceiveCode, 1),
-        Line::Comes(Look::Received(Field::First), 1),
-    ]
-}
+const TWO_SYNC_CODES: &[Line] = &[
+    Line::Do(Act::Write { rs: 0, byte: 0x83 }),
+    Line::Do(Act::Write { rs: 1, byte: 0x16 }),
+    Line::Do(Act::Write { rs: 0, byte: 0x03 }),
+    Line::Do(Act::Write { rs: 1, byte: 0x1c }),
+    Line::Do(Act::Write { rs: 0, byte: 0x00 }),
+    Line::Do(Act::Character(0x16)),
+    Line::Do(Act::Character(0x16)),
+    Line::Do(Act::Character(0x41)),
+    Line::Comes(Reading::Waiting(Place::One, Some(1))),
+    Line::Do(Act::Idle),
+    Line::Do(Act::Read { rs: 1 }),
+    Line::Comes(Reading::Byte(0x41)),
+    Line::Comes(Reading::Receive(ReceiveCode::Delivered)),
+    Line::Comes(Reading::Received(Field::First, 1)),
+];
 
 // Set up like that, 16h, 41h, 16h, 16h: in sync, and nothing framed.
-pub fn second_is_no_sync_code() -> [Line; 12]
-    ensures { result ≡ second_is_no_sync_code }
-{
-    [
-        Line::Do(Act::Write { rs: 0, byte: 0x83 }),
-        Line::Do(Act::Write { rs: 1, byte: 0x16 }),
-        Line::Do(Act::Write { rs: 0, byte: 0x03 }),
-        Line::Do(Act::Write { rs: 1, byte: 0x1c }),
-        Line::Do(Act::Write { rs: 0, byte: 0x00 }),
-        Line::Do(Act::Character(0x16)),
-        Line::Do(Act::Character(0x41)),
-        Line::Do(Act::Character(0x16)),
-        Line::Do(Act::Character(0x16)),
-        Line::Comes(Look::Waiting(Place::One), 0),
-        Line::Do(Act::Character(0x42)),
-        Line::Comes(Look::Waiting(Place::One), 1),
-    ]
-}
+const SECOND_IS_NO_SYNC_CODE: &[Line] = &[
+    Line::Do(Act::Write { rs: 0, byte: 0x83 }),
+    Line::Do(Act::Write { rs: 1, byte: 0x16 }),
+    Line::Do(Act::Write { rs: 0, byte: 0x03 }),
+    Line::Do(Act::Write { rs: 1, byte: 0x1c }),
+    Line::Do(Act::Write { rs: 0, byte: 0x00 }),
+    Line::Do(Act::Character(0x16)),
+    Line::Do(Act::Character(0x41)),
+    Line::Do(Act::Character(0x16)),
+    Line::Do(Act::Character(0x16)),
+    Line::Comes(Reading::Waiting(Place::One, None)),
+    Line::Do(Act::Character(0x42)),
+    Line::Comes(Reading::Waiting(Place::One, Some(1))),
+];
 
 // Places 3, 2 and 1 hold 41h, 42h and 43h; 44h arrives: number 3 is lost.
-pub fn newest_is_lost() -> [Line; 18]
-    ensures { result ≡ newest_is_lost }
-{
-    [
-        Line::Do(Act::Write { rs: 0, byte: 0x43 }),
-        Line::Do(Act::Write { rs: 1, byte: 0x01 }),
-        Line::Do(Act::Write { rs: 0, byte: 0x03 }),
-        Line::Do(Act::Write { rs: 1, byte: 0x1c }),
-        Line::Do(Act::Write { rs: 0, byte: 0x00 }),
-        Line::Do(Act::Character(0x41)),
-        Line::Do(Act::Idle),
-        Line::Do(Act::Character(0x42)),
-        Line::Do(Act::Idle),
-        Line::Do(Act::Character(0x43)),
-        Line::Comes(Look::Waiting(Place::Three), 1),
-        Line::Comes(Look::Waiting(Place::Two), 2),
-        Line::Comes(Look::Waiting(Place::One), 3),
-        Line::Do(Act::Character(0x44)),
-        Line::Comes(Look::ReceiveCode, 4),
-        Line::Comes(Look::Received(Field::First), 3),
-        Line::Comes(Look::Received(Field::Second), 0),
-        Line::Comes(Look::Waiting(Place::One), 4),
-    ]
-}
+const NEWEST_IS_LOST: &[Line] = &[
+    Line::Do(Act::Write { rs: 0, byte: 0x43 }),
+    Line::Do(Act::Write { rs: 1, byte: 0x01 }),
+    Line::Do(Act::Write { rs: 0, byte: 0x03 }),
+    Line::Do(Act::Write { rs: 1, byte: 0x1c }),
+    Line::Do(Act::Write { rs: 0, byte: 0x00 }),
+    Line::Do(Act::Character(0x41)),
+    Line::Do(Act::Idle),
+    Line::Do(Act::Character(0x42)),
+    Line::Do(Act::Idle),
+    Line::Do(Act::Character(0x43)),
+    Line::Comes(Reading::Waiting(Place::Three, Some(1))),
+    Line::Comes(Reading::Waiting(Place::Two, Some(2))),
+    Line::Comes(Reading::Waiting(Place::One, Some(3))),
+    Line::Do(Act::Character(0x44)),
+    Line::Comes(Reading::Receive(ReceiveCode::Lost)),
+    Line::Comes(Reading::Received(Field::First, 3)),
+    Line::Comes(Reading::Received(Field::Second, 0)),
+    Line::Comes(Reading::Waiting(Place::One, Some(4))),
+];
 
 // Loss, Status read, loss, data read, Status read: overrun still shows.
-pub fn loss_after_status() -> [Line; 18]
-    ensures { result ≡ loss_after_status }
-{
-    [
-        Line::Do(Act::Write { rs: 0, byte: 0x43 }),
-        Line::Do(Act::Write { rs: 1, byte: 0x01 }),
-        Line::Do(Act::Write { rs: 0, byte: 0x03 }),
-        Line::Do(Act::Write { rs: 1, byte: 0x1c }),
-        Line::Do(Act::Write { rs: 0, byte: 0x00 }),
-        Line::Do(Act::Character(0x01)),
-        Line::Do(Act::Character(0x02)),
-        Line::Comes(Look::ReceiveCode, 4),
-        Line::Comes(Look::Received(Field::First), 1),
-        Line::Do(Act::Read { rs: 0 }),
-        Line::Comes(Look::Byte, 0x22),
-        Line::Do(Act::Character(0x03)),
-        Line::Comes(Look::ReceiveCode, 4),
-        Line::Comes(Look::Received(Field::First), 2),
-        Line::Do(Act::Read { rs: 1 }),
-        Line::Comes(Look::ReceiveCode, 0),
-        Line::Do(Act::Read { rs: 0 }),
-        Line::Comes(Look::Byte, 0x22),
-    ]
-}
+const LOSS_AFTER_STATUS: &[Line] = &[
+    Line::Do(Act::Write { rs: 0, byte: 0x43 }),
+    Line::Do(Act::Write { rs: 1, byte: 0x01 }),
+    Line::Do(Act::Write { rs: 0, byte: 0x03 }),
+    Line::Do(Act::Write { rs: 1, byte: 0x1c }),
+    Line::Do(Act::Write { rs: 0, byte: 0x00 }),
+    Line::Do(Act::Character(0x01)),
+    Line::Do(Act::Character(0x02)),
+    Line::Comes(Reading::Receive(ReceiveCode::Lost)),
+    Line::Comes(Reading::Received(Field::First, 1)),
+    Line::Do(Act::Read { rs: 0 }),
+    Line::Comes(Reading::Byte(0x22)),
+    Line::Do(Act::Character(0x03)),
+    Line::Comes(Reading::Receive(ReceiveCode::Lost)),
+    Line::Comes(Reading::Received(Field::First, 2)),
+    Line::Do(Act::Read { rs: 1 }),
+    Line::Comes(Reading::Receive(ReceiveCode::Nothing)),
+    Line::Do(Act::Read { rs: 0 }),
+    Line::Comes(Reading::Byte(0x22)),
+];
 
 // C1 = 00h, C2 = 80h, CTS rises: Status 88h; after Clear CTS 08h.
-pub fn cts_is_stored() -> [Line; 9]
-    ensures { result ≡ cts_is_stored }
-{
-    [
-        Line::Do(Act::Write { rs: 0, byte: 0x00 }),
-        Line::Do(Act::Write { rs: 1, byte: 0x80 }),
-        Line::Do(Act::Pin { pin: 1, level: 1 }),
-        Line::Do(Act::Read { rs: 0 }),
-        Line::Comes(Look::Byte, 0x88),
-        Line::Do(Act::Write { rs: 0, byte: 0x40 }),
-        Line::Do(Act::Write { rs: 1, byte: 0x04 }),
-        Line::Do(Act::Read { rs: 0 }),
-        Line::Comes(Look::Byte, 0x08),
-    ]
-}
+const CTS_IS_STORED: &[Line] = &[
+    Line::Do(Act::Write { rs: 0, byte: 0x00 }),
+    Line::Do(Act::Write { rs: 1, byte: 0x80 }),
+    Line::Do(Act::Pin { pin: 1, level: 1 }),
+    Line::Do(Act::Read { rs: 0 }),
+    Line::Comes(Reading::Byte(0x88)),
+    Line::Do(Act::Write { rs: 0, byte: 0x40 }),
+    Line::Do(Act::Write { rs: 1, byte: 0x04 }),
+    Line::Do(Act::Read { rs: 0 }),
+    Line::Comes(Reading::Byte(0x08)),
+];
 
 // Two transmit writes without an idle cycle: number 1 is overwritten.
-pub fn overwritten() -> [Line; 6]
-    ensures { result ≡ overwritten }
+const OVERWRITTEN: &[Line] = &[
+    Line::Do(Act::Write { rs: 0, byte: 0xc1 }),
+    Line::Do(Act::Write { rs: 1, byte: 0x55 }),
+    Line::Comes(Reading::Queue(QueueCode::Nothing)),
+    Line::Do(Act::Write { rs: 1, byte: 0x56 }),
+    Line::Comes(Reading::Queue(QueueCode::Overwritten)),
+    Line::Comes(Reading::Queued(Field::First, 1)),
+];
+
+// Each with what it shows.
+static EXAMPLES: [Example; 14] = [
+    Example {
+        title: "41h in 7 with even parity is 10000010",
+        script: SEVEN_WITH_EVEN,
+    },
+    Example {
+        title: "41h in 7 with odd parity is 10000011",
+        script: SEVEN_WITH_ODD,
+    },
+    Example {
+        title: "FFh in 6 with odd parity is 1111111",
+        script: SIX_WITH_ODD,
+    },
+    Example {
+        title: "the sync fill 16h in form 000 is 0110100",
+        script: SYNC_FILL_OF_SEVEN,
+    },
+    Example {
+        title: "the sync fill 16h in form 110 is 011010001",
+        script: SYNC_FILL_OF_NINE,
+    },
+    Example {
+        title: "the mark fill in form 110 is nine ones, and TUF stays 0",
+        script: MARK_FILL,
+    },
+    Example {
+        title: "a new Status is 00h; after C1 = 00h it is 02h, and after C1 = 10h 82h",
+        script: NEW_STATUS,
+    },
+    Example {
+        title: "form 011, 1-sync, code 7Fh, restart, one bit 0: in sync",
+        script: ONE_BIT_TO_SYNC,
+    },
+    Example {
+        title: "form 011, code 16h, two sync codes asked for: after 16h, 16h comes 41h as number 1",
+        script: TWO_SYNC_CODES,
+    },
+    Example {
+        title: "set up like that, 16h, 41h, 16h, 16h: in sync, and nothing framed",
+        script: SECOND_IS_NO_SYNC_CODE,
+    },
+    Example {
+        title: "places 3, 2 and 1 hold 41h, 42h and 43h; 44h arrives: number 3 is lost",
+        script: NEWEST_IS_LOST,
+    },
+    Example {
+        title: "loss, Status read, loss, data read, Status read: overrun still shows",
+        script: LOSS_AFTER_STATUS,
+    },
+    Example {
+        title: "C1 = 00h, C2 = 80h, CTS rises: Status 88h; after Clear CTS 08h",
+        script: CTS_IS_STORED,
+    },
+    Example {
+        title: "two transmit writes without an idle cycle: number 1 is overwritten",
+        script: OVERWRITTEN,
+    },
+];
+
+// The worked examples of the rules. All that must come by them does come.
+pub fn examples() -> &'static [Example; 14]
+    ensures table { map entry_of result.now ≡ worked }
+    ensures hold { WorkedHold }
 {
-    [
-        Line::Do(Act::Write { rs: 0, byte: 0xc1 }),
-        Line::Do(Act::Write { rs: 1, byte: 0x55 }),
-        Line::Comes(Look::QueueCode, 0),
-        Line::Do(Act::Write { rs: 1, byte: 0x56 }),
-        Line::Comes(Look::QueueCode, 1),
-        Line::Comes(Look::Queued(Field::First), 1),
-    ]
+    &EXAMPLES
 }

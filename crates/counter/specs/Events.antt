@@ -1,14 +1,11 @@
 -- What a step of the story hands to the adapter. Assumes nothing.
-use Rattle.std.specs.Prelude.{ℕ, ◌/◌, ◌%◌, ◌^◌, List, [], ◌∷◌, ◌++◌}
+use Rattle.std.specs.Prelude.{ℕ, List, [], ◌∷◌, ◌++◌}
 use Rattle.serial.specs.declared.event.Cycle.TheVariants.{Idle, Read, Write}
 use Rattle.serial.specs.declared.event.Event.{Event}
-use Rattle.serial.specs.declared.event.Event.TheVariants.{Bus, ReceivedBit}
+use Rattle.serial.specs.declared.event.Event.TheVariants.{Bus}
+use Rattle.serial.specs.Events.{bit_event}
 use Rattle.counter.specs.declared.story.Step.{Step}
 use Rattle.counter.specs.declared.story.Step.TheVariants as the
-
--- the bit of a byte at a place, as an event
-abbrev pub bit_event : ℕ → ℕ → Event
-bit_event b i = ReceivedBit (b / 2 ^ i % 2)
 
 -- a character is its eight bits, lowest first; the first seven come before the last event of the step
 abbrev pub first_seven : ℕ → List Event

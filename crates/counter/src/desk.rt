@@ -4,20 +4,24 @@ ghost use Rattle.serial.specs.Accounts.{accounted};
 ghost use Rattle.ssda.specs.State.{new_state};
 ghost use Rattle.ssda.specs.Stepped.{standing_in};
 ghost use Rattle.counter.specs.declared.desk.Fault.TheVariants.{Declined, NoMemory};
-ghost use Rattle.counter.specs.Events.{bit_event, first_seven, events_before, last_event};
-ghost use Rattle.counter.specs.Desk.{kept_on, Handed, HandedAll, or_declined, named_by, fate_in};
+ghost use Rattle.counter.specs.Events.{events_before, last_event};
+ghost use Rattle.counter.specs.Desk.{kept_on, Handed, HandedAll, or_declined, told_by, fate_in};
 
 use crate::story::Step;
 use serial::account::Account;
+use serial::case::Case;
 use serial::event::{Cycle, Event, Refusal};
 use serial::slip::{ReceiveCode, Reply, Slip, Standing};
 use ssda::adapter::Adapter;
 use std::alloc::{AllocFailed, Global};
+use thiserror::Error;
 
 // Why the story stops.
-#[derive(Clone, Copy)]
+#[derive(Clone, Copy, Debug, PartialEq, Eq, Error)]
 pub enum Fault {
+    #[error("The adapter declined an event, refusal {}.", .0.number())]
     Declined(Refusal),
+    #[error("There is no memory for another slip.")]
     NoMemory,
 }
 
@@ -59,11 +63,14 @@ impl Desk {
         ensures { HandedAll (kept_on self.old) (events_before step) (last_event step) result (kept_on self.new) }
     {
         match step {
-            Step::Write { rs, byte } => self.hand(Event::Bus(Cycle::Write { rs, byte })),
-            Step::Character(byte) => self.receive(byte),
-            Step::Idle => self.hand(Event::Bus(Cycle::Idle)),
-            Step::LoggerReadsStatus => self.hand(Event::Bus(Cycle::Read { rs: 0 })),
-            Step::DoserReadsData => self.hand(Event::Bus(Cycle::Read { rs: 1 })),
+            Step::Write { rs, byte } => self.hand_all(&[], Event::Bus(Cycle::Write { rs, byte })),
+            Step::Character(byte) => {
+                let bits = Event::character(byte);
+                self.hand_all(&bits[..7], bits[7])
+            }
+            Step::Idle => self.hand_all(&[], Event::Bus(Cycle::Idle)),
+            Step::LoggerReadsStatus => self.hand_all(&[], Event::Bus(Cycle::Read { rs: 0 })),
+            Step::DoserReadsData => self.hand_all(&[], Event::Bus(Cycle::Read { rs: 1 })),
         }
     }
 
@@ -88,14 +95,14 @@ impl Desk {
         fate_in(self.slips.as_slice(), number)
     }
 
-    // The eight bits of a character, lowest first.
-    fn receive(&mut self, byte: u8) -> Result<Reply, Fault>
-        ensures { HandedAll (kept_on self.old) (first_seven byte) (bit_event byte 7) result (kept_on self.new) }
+    // Some events in order, and one more; the reply is that to the last one.
+    fn hand_all(&mut self, events: &[Event], last: Event) -> Result<Reply, Fault>
+        ensures { HandedAll (kept_on self.old) events.now last result (kept_on self.new) }
     {
-        for place in 0..7 {
-            self.hand(bit_event(byte, place))?;
+        for event in events {
+            self.hand(*event)?;
         }
-        self.hand(bit_event(byte, 7))
+        self.hand(last)
     }
 
     // One event, whose slip is kept.
@@ -108,29 +115,23 @@ impl Desk {
     }
 }
 
-// The bit of a byte at a place.
-fn bit_event(byte: u8, place: u8) -> Event
-    requires { place < 8 }
-    ensures { result ≡ bit_event byte place }
-{
-    Event::ReceivedBit((byte >> place) % 2)
-}
-
+// What the last slip that names a character tells of it.
 fn fate_in(slips: &[Slip], number: u32) -> ReceiveCode
     ensures { result ≡ fate_in number slips.now }
 {
-    let mut fate = ReceiveCode::Nothing;
-    for slip in slips {
-        if names(slip, number) {
-            fate = slip.receive;
-        }
-    }
-    fate
+    slips.iter().fold(
+        ReceiveCode::Nothing,
+        |fate, slip| told_by(number, fate, slip),
+    )
 }
 
-fn names(slip: &Slip, number: u32) -> bool
-    ensures { result ≡ named_by slip.now number }
+// What is told of a character after one more slip.
+fn told_by(number: u32, fate: ReceiveCode, slip: &Slip) -> ReceiveCode
+    ensures { result ≡ told_by number fate slip.now }
 {
-    let received = slip.received;
-    received.first == number || received.second == number || received.third == number
+    if slip.received.all().contains(&number) {
+        slip.receive
+    } else {
+        fate
+    }
 }

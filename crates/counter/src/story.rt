@@ -2,7 +2,7 @@
 ghost use Rattle.counter.specs.Story.{Goes};
 
 // What happens next. The bus is idle for the adapter while the screen redraws.
-#[derive(Clone, Copy)]
+#[derive(Clone, Copy, Debug, PartialEq, Eq)]
 pub enum Step {
     Write { rs: u8, byte: u8 },
     Character(u8),

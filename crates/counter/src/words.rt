@@ -1,14 +1,12 @@
 // The story in words.
 ghost use Rattle.std.specs.Prelude.{◌≡◌};
-ghost use Rattle.serial.specs.Queue.{place_number};
 ghost use Rattle.counter.specs.Words.{word_of, overrun_in};
 
-use crate::desk::Fault;
 use crate::story::Step;
 use serial::account::Account;
-use serial::queue::{Numbered, Numbers, Place};
+use serial::case::Case;
+use serial::queue::Place;
 use serial::slip::{ReceiveCode, Reply, Slip, Standing};
-use std::error::Error;
 use std::fmt;
 
 // What a code says of a character.
@@ -30,16 +28,6 @@ pub fn shows_overrun(status: u8) -> bool
     ensures { result ≡ overrun_in status }
 {
     (status >> 5) % 2 == 1
-}
-
-fn place_number(place: Place) -> u8
-    ensures { result ≡ place_number place }
-{
-    match place {
-        Place::One => 1,
-        Place::Two => 2,
-        Place::Three => 3,
-    }
 }
 
 // A step that was played: the reply to its last event, and which characters wait after it.
@@ -72,8 +60,10 @@ impl fmt::Display for Played {
                 };
                 write!(f, "logger  reads Status: {value:02X}h{overrun}{fates}")
             }
-            Step::DoserReadsData if matches!(self.reply.slip.receive, ReceiveCode::Nothing) =>
-                write!(f, "doser   reads data: {value:02X}h once more"),
+            Step::DoserReadsData if self.reply.slip.receive == ReceiveCode::Nothing => write!(
+                f,
+                "doser   reads data: {value:02X}h once more"
+            ),
             Step::DoserReadsData => write!(f, "doser   reads data{fates}"),
         }
     }
@@ -102,17 +92,11 @@ struct Fates {
 impl fmt::Display for Fates {
     fn fmt<W: fmt::Write>(&self, f: &mut fmt::Formatter<W>) -> fmt::Result {
         let word = word_of(self.slip.receive);
-        let Numbers {
-            first,
-            second,
-            third,
-        } = self.slip.received;
-        if first != 0 {
-            write!(f, ": character {first} {word}")?;
-        }
-        for number in [second, third] {
+        let mut joint = ":";
+        for number in self.slip.received.all() {
             if number != 0 {
-                write!(f, ", character {number} {word}")?;
+                write!(f, "{joint} character {number} {word}")?;
+                joint = ",";
             }
         }
         let value = self.value;
@@ -130,16 +114,18 @@ pub struct Waiting(pub Standing);
 impl fmt::Display for Waiting {
     fn fmt<W: fmt::Write>(&self, f: &mut fmt::Formatter<W>) -> fmt::Result {
         write!(f, "Still waiting:")?;
-        let mut any = false;
+        let mut joint = "";
         for place in [Place::Three, Place::Two, Place::One] {
             if let Some(number) = self.0.received.at(place) {
-                let joint = if any { "," } else { "" };
-                let place = place_number(place);
+                let place = place.number();
                 write!(f, "{joint} character {number} in place {place}")?;
-                any = true;
+                joint = ",";
             }
         }
-        if any { Ok(()) } else { write!(f, " nothing") }
+        if joint.is_empty() {
+            write!(f, " nothing")?;
+        }
+        Ok(())
     }
 }
 
@@ -184,23 +170,3 @@ impl fmt::Display for Closing {
         )
     }
 }
-
-impl fmt::Display for Fault {
-    fn fmt<W: fmt::Write>(&self, f: &mut fmt::Formatter<W>) -> fmt::Result {
-        match *self {
-            Fault::Declined(refusal) => {
-                let number = refusal.number();
-                write!(f, "The adapter declined an event, refusal {number}.")
-            }
-            Fault::NoMemory => write!(f, "There is no memory for another slip."),
-        }
-    }
-}
-
-impl fmt::Debug for Fault {
-    fn fmt<W: fmt::Write>(&self, f: &mut fmt::Formatter<W>) -> fmt::Result {
-        write!(f, "{self}")
-    }
-}
-
-impl Error for Fault {}

@@ -1,5 +1,5 @@
 -- What holds of each thing in a queue, which act is which, who is held where, and what is told of one number. Assumes nothing.
-use Rattle.std.proofs.Common.{◌≡◌, ℕ, ◌≤◌, Bool, true, false, eqb, [], ◌∷◌, Some, None, Option, refl, ap, inl, inr, arith}
+use Rattle.std.proofs.Common.{◌≡◌, ℕ, ◌≤◌, Bool, [], ◌∷◌, Some, None, Option, refl, ap, inl, inr, arith}
 use Rattle.serial.specs.declared.queue.Queue.{Queue}
 use Rattle.serial.specs.declared.slip.QueueCode.TheVariants as qu
 use Rattle.serial.specs.declared.slip.ReceiveCode.TheVariants as rx
@@ -93,9 +93,6 @@ pub way_told : (n : ℕ) (w : Way) → 1 ≤ n → (tells w (fields (n ∷ [])))
 way_told n w h = simp (not_zero n h)
 
 -- what is told of the byte that is being shifted is nothing of either queue
-pub shift_alone : (m : ℕ) (last : Bool) → ((tell_shift m last).receive ≡ rx.Nothing) × ((tell_shift m last).received ≡ fields []) × ((tell_shift m last).queue ≡ qu.Nothing) × ((tell_shift m last).queued ≡ fields [])
-shift_alone m last = go (eqb m 0) refl
-  where
-    go : (t : Bool) → eqb m 0 ≡ t → ((tell_shift m last).receive ≡ rx.Nothing) × ((tell_shift m last).received ≡ fields []) × ((tell_shift m last).queue ≡ qu.Nothing) × ((tell_shift m last).queued ≡ fields [])
-    go true e = (simp e, simp e, simp e, simp e)
-    go false e = (simp e, simp e, simp e, simp e)
+pub shift_alone : (m : Option ℕ) (last : Bool) → ((tell_shift m last).receive ≡ rx.Nothing) × ((tell_shift m last).received ≡ fields []) × ((tell_shift m last).queue ≡ qu.Nothing) × ((tell_shift m last).queued ≡ fields [])
+shift_alone None last = (refl, refl, refl, refl)
+shift_alone (Some n) last = (refl, refl, refl, refl)

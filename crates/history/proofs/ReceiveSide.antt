@@ -3,8 +3,8 @@ use Rattle.std.proofs.Common.{◌≡◌, ℕ, ◌<◌, ◌≤◌, Bool, true, fa
 use Rattle.std.proofs.lemmas.Bool.{le-leb}
 use Rattle.std.specs.Option.{option_map}
 use Rattle.serial.specs.Life.{Stands, was_displaced, was_taken}
-use Rattle.serial.specs.Moves.{Act, enter, rise, take, empty, nothing, acted, queue_at, tells, tells_of, list_of}
-use Rattle.serial.specs.Queue.{empty_queue, entered, fields, numbers_by, waiting}
+use Rattle.serial.specs.Moves.{Act, enter, rise, take, empty, nothing, acted, queue_at, tells, tells_of}
+use Rattle.serial.specs.Queue.{empty_queue, entered, fields, list_of, numbers_by, waiting}
 use Rattle.serial.specs.Slips.{quiet_slip}
 use Rattle.serial.specs.Telling.{Tells}
 use Rattle.serial.specs.declared.event.Cycle.TheVariants.{Idle, Read}

@@ -1,10 +1,10 @@
 -- What each event does on the transmit side of the adapter is what the rules say: the queue, the word being shown, what is told. Assumes nothing.
 use Rattle.std.proofs.Common.{◌≡◌, ℕ, zero, suc, ◌+◌, ◌-◌, ◌/◌, ◌%◌, ◌<◌, ◌≤◌, Bool, true, false, cond, eqb, ltb, leb, ◌⊎◌, List, [], ◌∷◌, get_or, drop, Some, None, Ok, Err, Option, sym, refl, ap, ◌∙◌, subst, subst₂, inl, inr, add-one, arith}
 use Rattle.std.proofs.lemmas.Bool.{le-leb, lt-leb, leb-true, leb-false, ltb-true, ltb-false}
-use Rattle.std.specs.Option.{option_map}
+use Rattle.std.specs.Option.{option_map, unwrap_or}
 use Rattle.serial.specs.Life.{Stands}
-use Rattle.serial.specs.Moves.{Act, enter, rise, take, empty, nothing, acted, queue_at, tells, tells_of, list_of}
-use Rattle.serial.specs.Queue.{empty_queue, entered, risen, output_taken, fields, numbers_by, waiting}
+use Rattle.serial.specs.Moves.{Act, enter, rise, take, empty, nothing, acted, queue_at, tells, tells_of}
+use Rattle.serial.specs.Queue.{empty_queue, entered, fields, list_of, numbers_by, output_taken, risen, waiting}
 use Rattle.serial.specs.Slips.{quiet_slip}
 use Rattle.serial.specs.Telling.{Tells}
 use Rattle.serial.specs.Words.{value_of, word_of}
@@ -24,7 +24,7 @@ use Rattle.ssda.specs.declared.transmitter.Byte.{Byte}
 use Rattle.ssda.specs.declared.transmitter.Shift.{Shift}
 use Rattle.ssda.specs.declared.transmitter.Timing.{Timing}
 use Rattle.ssda.specs.declared.transmitter.Timing.TheVariants.{Showing}
-use Rattle.ssda.specs.Step.{told_of, cleared_written, overwrite_of, write_told, tell_shift, clock_told, loaded_state, advanced_state}
+use Rattle.ssda.specs.Step.{told_of, cut_code, cleared_written, overwrite_of, write_told, tell_shift, clock_told, loaded_state, advanced_state}
 use Rattle.ssda.specs.Step as step
 use Rattle.ssda.specs.Transmitter.{byte_number, bit_shown, loads_at, shifted_on, shifting_in, word_for}
 use Rattle.history.specs.Events.{idles, clocks}
@@ -41,11 +41,11 @@ use Rattle.history.proofs.Foretold.{queue_code_for, dropped_foretold, load_drops
 use Rattle.history.proofs.OneState.{Good, next_by_lem, good_at, transmitter_at, transmitter_is}
 use Rattle.history.proofs.Resets.{calm_tx}
 use Rattle.history.proofs.Showing.{word, same_word, no_word}
-use Rattle.history.proofs.Small.{some_is, false_true, cond_through, not_zero, neither_first}
+use Rattle.history.proofs.Small.{some_is, false_true, cond_through, neither_first}
 use Rattle.history.proofs.Tied.{form_now}
 use Rattle.history.proofs.TiedTransmitter.{timed}
 use Rattle.history.proofs.Transmitting.{transmit_act, transmitting_sane, here_now, loads_clock, written_next}
-use Rattle.history.proofs.WrittenFates.{cut_holds, stands_at, loaded_number}
+use Rattle.history.proofs.WrittenFates.{cut_holds, stands_at}
 
 -- byte b was written by an event
 pub record Entry (E : History) (b : Byte) : Type 0 where
@@ -54,8 +54,8 @@ pub record Entry (E : History) (b : Byte) : Type 0 where
 
 -- the word x that event l loaded, with j bits shown: that of the byte that stood at the output, or a fill
 pub data Loaded (E : History) (l j : ℕ) (x : Shift) : Type 0 where
-  a_byte : (b : Byte) → (queue_at (transmit_act E) l).three ≡ Some b.number → Entry E b → x.number ≡ b.number → x.bits ≡ value_of (drop j (word_of (form E l) b.byte)) → Loaded E l j x
-  a_fill : (queue_at (transmit_act E) l).three ≡ None → x.number ≡ 0 → Loaded E l j x
+  a_byte : (b : Byte) → (queue_at (transmit_act E) l).three ≡ Some b.number → Entry E b → x.number ≡ Some b.number → x.bits ≡ value_of (drop j (word_of (form E l) b.byte)) → Loaded E l j x
+  a_fill : (queue_at (transmit_act E) l).three ≡ None → x.number ≡ None → Loaded E l j x
 
 -- the word being shown, where one is
 abbrev pub ShownIn : History → Sending → Shift → Type 0
@@ -155,10 +155,10 @@ module _ (E : History) where
       let e = neither_first i j (λ h. once i j n b c h x y) (λ h. once j i n c b h y x) in
       some_is (sym x.byte ∙ ap (to_data E) e ∙ y.byte)
 
--- m is the number of the byte that is being shifted at moment k, 0 if none is
-pub data ShiftsNow (E : History) (k m : ℕ) : Type 0 where
-  nobody : m ≡ 0 → ((n l j : ℕ) → Shifts E k n l j → ⊥) → ShiftsNow E k m
-  somebody : (n l j : ℕ) → Shifts E k n l j → m ≡ n → ShiftsNow E k m
+-- m is the number of the byte that is being shifted at moment k, if one is
+pub data ShiftsNow (E : History) (k : ℕ) (m : Option ℕ) : Type 0 where
+  nobody : m ≡ None → ((n l j : ℕ) → Shifts E k n l j → ⊥) → ShiftsNow E k m
+  somebody : (n l j : ℕ) → Shifts E k n l j → m ≡ Some n → ShiftsNow E k m
 
 module _ (E : History) (k : ℕ) where
   -- the transmitter is as computed
@@ -190,10 +190,9 @@ module _ (E : History) (k : ℕ) where
           subst (λ (o : Option ℕ). In o n) q a
 
   -- what is told of a cut
-  cut_told_lem : (m : ℕ) → ShiftsNow E k m → Cuts E k → Tells shift_code sh.Nothing (Does E k) (cond (eqb m 0) sh.Nothing sh.Cut) (only m)
+  cut_told_lem : (m : Option ℕ) → ShiftsNow E k m → Cuts E k → Tells shift_code sh.Nothing (Does E k) (cut_code m sh.Nothing) (only (unwrap_or m 0))
   cut_told_lem m (nobody e none) c = rw e (no_shift_foretold E k (λ n l j x y. none n l j x))
-  cut_told_lem m (somebody n l j x e) c =
-      rw (e, not_zero n (loaded_number E l n x.0)) (cut_foretold E k n l j x c)
+  cut_told_lem m (somebody n l j x e) c = rw e (cut_foretold E k n l j x c)
 
   -- and where there is no clock and no cut
   calm_told : clocks (E k) ≡ false → (Cuts E k → ⊥) → Tells shift_code sh.Nothing (Does E k) sh.Nothing (only 0)
@@ -221,8 +220,8 @@ module _ (E : History) (k : ℕ) (s : State) (w : Sends E k s) (timing : s.front
   abbrev q : Queue Byte
   q = s.transmit
 
-  -- the number of the byte that is being shifted
-  abbrev shifting_now : ℕ
+  -- the number of the byte that is being shifted, if one is
+  abbrev shifting_now : Option ℕ
   shifting_now = shifting_in s.front.timing s.shift
 
   pub shifting_now_lem : ShiftsNow E k shifting_now
@@ -297,7 +296,7 @@ module _ (E : History) (k : ℕ) (s : State) (w : Sends E k s) (timing : s.front
   }
 
   -- CTS rising: the byte that is being shifted is cut
-  pub cut_passed : Cuts E k → (ResetsTransmitter E k → ⊥) → idles (E k) ≡ false → clocks (E k) ≡ false → ((n b : ℕ) → Writes E k n b → ⊥) → (t : State) (o : Told) → t.transmit ≡ q → (o.slip.queue ≡ qu.Nothing) × (o.slip.queued ≡ fields []) → o.slip.shift ≡ cond (eqb shifting_now 0) sh.Nothing sh.Cut → o.slip.shifted ≡ shifting_now → Passed E k s t (Ok o)
+  pub cut_passed : Cuts E k → (ResetsTransmitter E k → ⊥) → idles (E k) ≡ false → clocks (E k) ≡ false → ((n b : ℕ) → Writes E k n b → ⊥) → (t : State) (o : Told) → t.transmit ≡ q → (o.slip.queue ≡ qu.Nothing) × (o.slip.queued ≡ fields []) → o.slip.shift ≡ cut_code shifting_now sh.Nothing → o.slip.shifted ≡ unwrap_or shifting_now 0 → Passed E k s t (Ok o)
   cut_passed x r i c u t o e h a b = record {
     numbers = ap (numbers_by byte_number) e ∙ sym (ap (acted (numbers_by byte_number q)) (still_act E k u i (no_load c) r));
     contents = subst (Each (Entry E)) (sym e) w.contents;
@@ -310,7 +309,7 @@ module _ (E : History) (k : ℕ) (s : State) (w : Sends E k s) (timing : s.front
   }
 
   -- a reset of the transmitter
-  pub reset_passed : ResetsTransmitter E k → clocks (E k) ≡ false → (t : State) (o : Told) → t.transmit ≡ empty_queue → o.slip.queue ≡ cond (eqb (cleared_written s).first 0) qu.Nothing qu.Cleared → o.slip.queued ≡ cleared_written s → o.slip.shift ≡ cond (eqb shifting_now 0) sh.Nothing sh.Cut → o.slip.shifted ≡ shifting_now → Passed E k s t (Ok o)
+  pub reset_passed : ResetsTransmitter E k → clocks (E k) ≡ false → (t : State) (o : Told) → t.transmit ≡ empty_queue → o.slip.queue ≡ cond (eqb (cleared_written s).first 0) qu.Nothing qu.Cleared → o.slip.queued ≡ cleared_written s → o.slip.shift ≡ cut_code shifting_now sh.Nothing → o.slip.shifted ≡ unwrap_or shifting_now 0 → Passed E k s t (Ok o)
   reset_passed r c t o e g d a b = record {
     numbers = ap (numbers_by byte_number) e ∙ sym (ap (acted (numbers_by byte_number q)) (reset_act E k r));
     contents = subst (Each (Entry E)) (sym e) (each_empty (Entry E));
@@ -339,7 +338,7 @@ module _ (E : History) (bytes : WritesBytes E) (k : ℕ) (w : Sends E k (state_a
   abbrev timing : Timing
   timing = s.front.timing
 
-  abbrev m : ℕ
+  abbrev m : Option ℕ
   m = shifting_in timing s.shift
 
   clock : clocks (E k) ≡ true
@@ -360,10 +359,9 @@ module _ (E : History) (bytes : WritesBytes E) (k : ℕ) (w : Sends E k (state_a
       let g = leb-false _ _ a in
       bit_foretold E k n l j y clock (omega (arith, g))
 
-  shift_told : (m : ℕ) → ShiftsNow E k m → (b : Bool) → loads_at timing ≡ b → Tells shift_code sh.Nothing (Does E k) (tell_shift m b).shift (only (tell_shift m b).shifted)
+  shift_told : (m : Option ℕ) → ShiftsNow E k m → (b : Bool) → loads_at timing ≡ b → Tells shift_code sh.Nothing (Does E k) (tell_shift m b).shift (only (tell_shift m b).shifted)
   shift_told m (nobody e none) b f = rw e (no_shift_foretold E k (λ n l j y z. none n l j y))
-  shift_told m (somebody n l j y e) b f =
-      rw (e, not_zero n (loaded_number E l n y.0)) (last_or_not l j y.1 b f n y)
+  shift_told m (somebody n l j y e) b f = rw e (last_or_not l j y.1 b f n y)
 
   -- the bit that it shows
   shows_bit : (n l j i b : ℕ) → Shifts E k n l j → clocks (E k) ≡ true → Writes E i n b → bit_shown timing s.shift ≡ get_or (word_of (form E l) b) j 0

@@ -1,6 +1,7 @@
 -- The transmit side of the adapter is as the rules say, at every moment. Assumes nothing.
 use Rattle.std.proofs.Common.{◌≡◌, ℕ, zero, suc, ◌+◌, ◌<◌, Bool, true, false, cond, eqb, [], Some, None, Ok, Option, sym, refl, ap, ◌∙◌, arith}
 use Rattle.std.proofs.lemmas.Bool.{le-leb}
+use Rattle.std.specs.Option.{unwrap_or}
 use Rattle.serial.specs.Moves.{acted}
 use Rattle.serial.specs.Queue.{empty_queue, fields}
 use Rattle.serial.specs.declared.event.Cycle.TheVariants.{Write}
@@ -14,7 +15,7 @@ use Rattle.ssda.specs.declared.receiver.Character.{Character}
 use Rattle.ssda.specs.declared.state.State.{State}
 use Rattle.ssda.specs.Control as reg
 use Rattle.ssda.specs.Front.{framed_front, heard_front, strips_of}
-use Rattle.ssda.specs.Step.{with_front, both_resets, both_told, cleared_written, c1_was_written, c1_told, taken, tells_of, took_in, bit_told, delivery_of, loss_of}
+use Rattle.ssda.specs.Step.{with_front, cut_code, both_resets, both_told, cleared_written, c1_was_written, c1_told, taken, tells_of, took_in, bit_told, delivery_of, loss_of}
 use Rattle.ssda.specs.Transmitter.{shifting_in}
 use Rattle.history.specs.Events.{idles, writes, clocks, level_for}
 use Rattle.history.specs.Settings.{History, or_else, bit_of, reset, cts, ResetsTransmitter, by_tx_rs, by_reset, by_cts, Falls, Rises}
@@ -40,7 +41,7 @@ reset_leaves true true s e = refl
 reset_leaves false true s e = refl
 reset_leaves x false s e = false_true e
 
-reset_tells : (x y : Bool) (s : State) → y ≡ true → ((both_told x y s).queue ≡ cond (eqb (cleared_written s).first 0) qu.Nothing qu.Cleared) × ((both_told x y s).queued ≡ cleared_written s) × ((both_told x y s).shift ≡ cond (eqb (shifting_in s.front.timing s.shift) 0) sh.Nothing sh.Cut) × ((both_told x y s).shifted ≡ shifting_in s.front.timing s.shift)
+reset_tells : (x y : Bool) (s : State) → y ≡ true → ((both_told x y s).queue ≡ cond (eqb (cleared_written s).first 0) qu.Nothing qu.Cleared) × ((both_told x y s).queued ≡ cleared_written s) × ((both_told x y s).shift ≡ cut_code (shifting_in s.front.timing s.shift) sh.Nothing) × ((both_told x y s).shifted ≡ unwrap_or (shifting_in s.front.timing s.shift) 0)
 reset_tells true true s e = (refl, refl, refl, refl)
 reset_tells false true s e = (refl, refl, refl, refl)
 reset_tells x false s e = false_true e

@@ -1,5 +1,5 @@
 -- Every answer of the adapter is truthful, and the whole law holds of every list of events whose writes are bytes. Assumes nothing.
-use Rattle.std.proofs.Common.{◌≡◌, ℕ, ◌*◌, ◌/◌, ◌%◌, ◌<◌, ◌≤◌, Bool, true, false, cond, ◌||◌, eqb, ◌↔◌, List, length, Some, Ok, Err, Result, sym, refl, ap, ◌∙◌, subst, arith}
+use Rattle.std.proofs.Common.{◌≡◌, ℕ, ◌*◌, ◌/◌, ◌%◌, ◌<◌, ◌≤◌, Bool, true, false, cond, ◌||◌, eqb, ◌↔◌, List, length, Some, Option, Ok, Err, Result, sym, refl, ap, ◌∙◌, subst, arith}
 use Rattle.std.proofs.lemmas.List.FromFn.{length-map-range_with_len, get_or-map-range_with_len}
 use Rattle.serial.specs.Life.{Stands, Shows}
 use Rattle.serial.specs.declared.event.Cycle.TheVariants.{Idle, Read, Write}
@@ -16,7 +16,7 @@ use Rattle.ssda.specs.State.{status_of, conditions_of, interrupt_of}
 use Rattle.ssda.specs.Status.{status_byte}
 use Rattle.ssda.specs.declared.status.Conditions.{Conditions}
 use Rattle.ssda.specs.declared.status.Flags.{Flags}
-use Rattle.ssda.specs.Stepped.{answered_by, number_if, standing_in}
+use Rattle.ssda.specs.Stepped.{answered_by, standing_in}
 use Rattle.ssda.specs.Transmitter.{shifting_in}
 use Rattle.history.specs.Events.{bit_at, reads}
 use Rattle.history.specs.Settings.{History, ReadsStatus}
@@ -33,14 +33,14 @@ use Rattle.history.proofs.ReceivedFates.{received_one_fate, delivered_rising}
 use Rattle.history.proofs.Receiving.{count, receive_act, receiving_sane}
 use Rattle.history.proofs.Refusals.{refused_at}
 use Rattle.history.proofs.SentBits.{sent_bits}
-use Rattle.history.proofs.Small.{none_some, some_is, ok_err, false_true, not_zero}
+use Rattle.history.proofs.Small.{none_some, some_is, ok_err, false_true}
 use Rattle.history.proofs.TiedTransmitter.{timed}
 use Rattle.history.proofs.ToldOnce.{received_once, written_once}
 use Rattle.history.proofs.TransmitSide as sent
 use Rattle.history.proofs.TransmitSide.{ShiftsNow, nobody, somebody, shifting_now_lem}
 use Rattle.history.proofs.TransmitTie.{sends, written_right}
 use Rattle.history.proofs.Transmitting.{transmit_act, transmitting_sane}
-use Rattle.history.proofs.WrittenFates.{written_one_fate, sent_rising, loaded_number}
+use Rattle.history.proofs.WrittenFates.{written_one_fate, sent_rising}
 
 -- THE STATUS BYTE
 
@@ -127,18 +127,15 @@ module _ (E : History) (bytes : WritesBytes E) (k : ℕ) where
       subst (λ (q : Queue ℕ). Shows q n p ↔ Stands (transmitting E) k n p) (sym (sends E bytes k).numbers) (shown (transmitting E) (transmit_act E) (written E) (transmitting_sane E) k n p)
 
   -- and who is being shifted
-  number_shown : (m : ℕ) → ShiftsNow E k m → (n : ℕ) → (number_if m ≡ Some n) ↔ ((l j : ℕ) × Shifts E k n l j)
-  number_shown m (nobody e none) n = ((λ h. none_some n (sym (ap number_if e) ∙ h)), (λ x. absurd (none n x.0 x.1 x.2)))
+  number_shown : (m : Option ℕ) → ShiftsNow E k m → (n : ℕ) → (m ≡ Some n) ↔ ((l j : ℕ) × Shifts E k n l j)
+  number_shown m (nobody e none) n = ((λ h. none_some n (sym e ∙ h)), (λ x. absurd (none n x.0 x.1 x.2)))
   number_shown m (somebody i l j x e) n = (to, from)
     where
-      named : number_if m ≡ Some i
-      named = rw (e, not_zero i (loaded_number E l i x.0)) refl
+      to : m ≡ Some n → (l j : ℕ) × Shifts E k n l j
+      to h = (l, j, subst (λ (i : ℕ). Shifts E k i l j) (some_is (sym e ∙ h)) x)
 
-      to : number_if m ≡ Some n → (l j : ℕ) × Shifts E k n l j
-      to h = (l, j, subst (λ (i : ℕ). Shifts E k i l j) (some_is (sym named ∙ h)) x)
-
-      from : (l j : ℕ) × Shifts E k n l j → number_if m ≡ Some n
-      from y = named ∙ ap Some (one_shift E k i l j n y.0 y.1 x y.2).0
+      from : (l j : ℕ) × Shifts E k n l j → m ≡ Some n
+      from y = e ∙ ap Some (one_shift E k i l j n y.0 y.1 x y.2).0
 
   shifting_shown : (n : ℕ) → ((standing_in s).shifting ≡ Some n) ↔ ((l j : ℕ) × Shifts E k n l j)
   shifting_shown n = number_shown (shifting_in s.front.timing s.shift) (shifting_now_lem E k s (sends E bytes k) (timed E bytes k)) n

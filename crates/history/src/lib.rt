@@ -73,37 +73,17 @@ fn begin() -> Adapter
     Adapter::new()
 }
 
-// The rules settle every fate, whatever an adapter answers.
-pub fn fates_settled() -> u8
+// What holds of every history, without any condition:
+// - the rules settle every fate, whatever an adapter answers;
+// - the law leaves no choice: the history fixes what each answer tells;
+// - the interrupt in a reply is bit 7 of a Status read made next;
+// - the adapter's receiver and transmitter go by the rules of framing and sending, at every moment.
+pub fn theorems()
     ensures settled { AllSettled }
-    ensures value { result ≡ 0 }
-{
-    0
-}
-
-// The law leaves no choice: the history fixes what each answer tells.
-pub fn law_pins() -> u8
     ensures pinned { Pinned }
-    ensures value { result ≡ 0 }
-{
-    0
-}
-
-// The interrupt in a reply is bit 7 of a Status read made next.
-pub fn interrupt_shown() -> u8
     ensures shown { InterruptShown }
-    ensures value { result ≡ 0 }
-{
-    0
-}
-
-// The adapter's receiver and transmitter go by the rules of framing and sending, at every moment.
-pub fn lines_tied() -> u8
     ensures tied { LinesTied }
-    ensures value { result ≡ 0 }
-{
-    0
-}
+{}
 
 #[cfg(test)]
 mod tests;

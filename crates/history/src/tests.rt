@@ -2,7 +2,7 @@
 use crate::replay;
 use serial::event::{Cycle, Event, Refusal};
 use serial::queue::Place;
-use serial::slip::Reply;
+use serial::slip::{ReceiveCode, Reply};
 use std::test::Fail;
 
 // Two characters come with no idle cycle between them, so the first one is lost.
@@ -36,25 +36,18 @@ const EVENTS: [Event; 26] = [
 ];
 
 // The value, the receive code and its first number that must come at an event.
-fn wanted(event: usize) -> (u8, u8, u32) {
+fn wanted(event: usize) -> (u8, ReceiveCode, u32) {
     match event {
-        20 => (0x00, 4, 1),
-        21 => (0x22, 0, 0),
-        23 => (0x02, 0, 0),
-        25 => (0x02, 1, 2),
-        _ => (0x00, 0, 0),
+        20 => (0x00, ReceiveCode::Lost, 1),
+        21 => (0x22, ReceiveCode::Nothing, 0),
+        23 => (0x02, ReceiveCode::Nothing, 0),
+        25 => (0x02, ReceiveCode::Delivered, 2),
+        _ => (0x00, ReceiveCode::Nothing, 0),
     }
 }
 
-fn told(answer: Result<Reply, Refusal>) -> Option<(u8, u8, u32)> {
-    match answer {
-        Ok(reply) => Some((
-            reply.value,
-            reply.slip.receive.number(),
-            reply.slip.received.first,
-        )),
-        Err(_) => None,
-    }
+fn told(reply: Reply) -> (u8, ReceiveCode, u32) {
+    (reply.value, reply.slip.receive, reply.slip.received.first)
 }
 
 #[test]
@@ -62,20 +55,17 @@ fn the_worked_history_goes_as_written(rt: HostRuntime) -> Result<(), Fail> {
     let run = replay(rt.alloc(), &EVENTS)?;
     assert_eq!(rt; run.answers.len(), 26);
     for (event, answer) in run.answers.iter().enumerate() {
-        assert_eq!(rt; told(*answer), Some(wanted(event)), "at event {event}");
+        assert_eq!(rt;
+            answer.ok().map(told),
+            Some(wanted(event)),
+            "at event {event}"
+        );
     }
     for place in [Place::One, Place::Two, Place::Three] {
         assert!(rt; run.standing.received.at(place).is_none());
     }
     assert!(rt; run.standing.shifting.is_none());
     Ok(())
-}
-
-fn refusal_of(answer: Result<Reply, Refusal>) -> u8 {
-    match answer {
-        Ok(_) => 0,
-        Err(refusal) => refusal.number(),
-    }
 }
 
 #[test]
@@ -87,8 +77,8 @@ fn declined_events_are_answered_in_their_place(rt: HostRuntime) -> Result<(), Fa
     ];
     let run = replay(rt.alloc(), &events)?;
     assert_eq!(rt; run.answers.len(), 3);
-    assert_eq!(rt; refusal_of(run.answers[0]), 1);
-    assert_eq!(rt; refusal_of(run.answers[1]), 0);
-    assert_eq!(rt; refusal_of(run.answers[2]), 2);
+    assert_eq!(rt; run.answers[0].err(), Some(Refusal::NotABit));
+    assert_eq!(rt; run.answers[1].err(), None);
+    assert_eq!(rt; run.answers[2].err(), Some(Refusal::NoSuchPin));
     Ok(())
 }

@@ -6,14 +6,17 @@ ghost use Rattle.loopback.specs.Exchange.{Within, with_word, sum_of, exchanged, 
 
 use serial::word::Form;
 use std::alloc::{AllocFailed, Global};
+use thiserror::Error;
 
 // The longest order, in bytes.
 pub const LIMIT: usize = 4096;
 
 // Why there is no tally or no table.
-#[derive(Clone, Copy)]
+#[derive(Clone, Copy, Debug, PartialEq, Eq, Error)]
 pub enum Fault {
+    #[error("The order is longer than {LIMIT} bytes, so nothing was sent.")]
     TooLong,
+    #[error("There is no memory for the table.")]
     NoMemory,
 }
 
@@ -27,7 +30,7 @@ impl<T: Drop> From<AllocFailed<T>> for Fault {
 
 // Words sent, their bits, how many were read back as their data bits with clean parity, and how many were
 // marked when one bit of each was flipped.
-#[derive(Clone, Copy)]
+#[derive(Clone, Copy, Debug, Default, PartialEq, Eq)]
 pub struct Tally {
     pub words: u32,
     pub bits: u32,
@@ -39,12 +42,7 @@ impl Tally {
     pub fn new() -> Tally
         ensures { result ≡ record { words = 0; bits = 0; clean = 0; marked = 0 } }
     {
-        Tally {
-            words: 0,
-            bits: 0,
-            clean: 0,
-            marked: 0,
-        }
+        Tally::default()
     }
 
     fn add(&mut self, other: Tally)
@@ -92,7 +90,7 @@ pub fn exchange(form: Form, order: &[u8]) -> Result<Tally, Fault>
 }
 
 // One line of the table: a form, and what came of the order in it.
-#[derive(Clone, Copy)]
+#[derive(Clone, Copy, Debug, PartialEq, Eq)]
 pub struct Row {
     pub form: Form,
     pub tally: Tally,

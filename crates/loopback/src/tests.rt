@@ -39,7 +39,7 @@ fn an_order_above_the_limit_is_refused(rt: HostRuntime) -> Result<(), Fail> {
     let mut order = vec![in rt.alloc(); 0x41; 4096]?;
     assert!(rt; tabulate(rt.alloc(), order.as_slice()).is_ok());
     order.push(0x41)?;
-    assert!(rt; matches!(tabulate(rt.alloc(), order.as_slice()), Err(Fault::TooLong)));
+    assert!(rt; tabulate(rt.alloc(), order.as_slice()).is_err_and(|fault| fault == Fault::TooLong));
     Ok(())
 }
 
@@ -87,10 +87,10 @@ fn a_life_is_told_move_by_move(rt: HostRuntime) -> Result<(), Fail> {
         Ok(life) => {
             assert_eq!(rt; life.told.len(), 4);
             assert!(rt; life.told[0].way.is_none());
-            assert!(rt; matches!(life.told[1].way, Some(Way::Displaced)));
+            assert_eq!(rt; life.told[1].way, Some(Way::Displaced));
             assert_eq!(rt; life.told[1].who.first, 1);
             assert!(rt; life.told[2].way.is_none());
-            assert!(rt; matches!(life.told[3].way, Some(Way::Taken)));
+            assert_eq!(rt; life.told[3].way, Some(Way::Taken));
             assert_eq!(rt; life.told[3].who.first, 2);
             assert!(rt; life.standing.at(Place::Three).is_none());
             Ok(())

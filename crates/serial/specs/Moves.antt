@@ -1,5 +1,5 @@
 -- A list of moves on a new queue: what the queue holds and tells, step by step, and the law of its life. Assumes nothing.
-use Rattle.std.specs.Prelude.{◌≡◌, ℕ, zero, suc, ◌+◌, ◌<◌, cond, ◌↔◌, List, [], map, length, get_or, Some, None, Option, ◌==◌, slice_index_or}
+use Rattle.std.specs.Prelude.{◌≡◌, ℕ, zero, suc, ◌+◌, ◌<◌, cond, ◌↔◌, List, [], map, length, get_or, Some, None, ◌==◌, slice_index_or}
 use Rattle.std.specs.List.{range_with_len}
 use Rattle.serial.specs.declared.life.Move.{Move}
 use Rattle.serial.specs.declared.life.Move.TheVariants.{Enter, Rise, Take, Clear, Nothing}
@@ -11,7 +11,7 @@ use Rattle.serial.specs.declared.queue.Numbers.{Numbers}
 use Rattle.serial.specs.Lives.{OneFate, Rising}
 use Rattle.serial.specs.Life.{Acts, Stands, Left, Shows}
 use Rattle.serial.specs.Telling.{Tells}
-use Rattle.serial.specs.Queue.{empty_queue, entered, risen, output_taken, waiting, with_number, fields}
+use Rattle.serial.specs.Queue.{empty_queue, entered, risen, output_taken, waiting, list_of, fields}
 
 -- one act on a queue of numbers
 pub data Act : Type 0 where
@@ -32,9 +32,6 @@ acted q nothing = q
 -- what is told of those who left in one way, oldest first; 0 in the first field is nobody
 abbrev pub tells : Way → Numbers → Told
 tells w who = record { way = cond (who.first == 0) None (Some w); who = who }
-
-abbrev pub list_of : Option ℕ → List ℕ
-list_of o = with_number (λ n. n) o []
 
 -- nobody left
 abbrev pub quiet : Told

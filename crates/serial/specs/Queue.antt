@@ -1,6 +1,7 @@
 -- The three places of a queue, and what each of its calls makes of them. Assumes nothing.
-use Rattle.std.specs.Prelude.{◌≡◌, ℕ, ◌<◌, true, List, [], ◌∷◌, is_some, Some, None, Option, slice_index}
+use Rattle.std.specs.Prelude.{◌≡◌, ℕ, ◌<◌, Bool, true, List, [], ◌∷◌, is_some, Some, None, Option, ◌==◌, slice_index}
 use Rattle.std.specs.Option.{option_map}
+use Rattle.serial.specs.Numbers.{numbered}
 use Rattle.serial.specs.declared.queue.Queue.{Queue}
 use Rattle.serial.specs.declared.queue.Numbers.{Numbers}
 use Rattle.serial.specs.declared.queue.Place.{Place}
@@ -12,9 +13,20 @@ place_number One = 1
 place_number Two = 2
 place_number Three = 3
 
+abbrev pub place_of : ℕ → Option Place
+place_of = numbered place_number (One ∷ Two ∷ Three ∷ [])
+
 -- numbers in the three fields: from the first field on, zeros after
 abbrev pub fields : List ℕ → Numbers
 fields ns = record { first = slice_index ns 0; second = slice_index ns 1; third = slice_index ns 2 }
+
+-- the three fields, in order
+abbrev pub fields_of : Numbers → List ℕ
+fields_of x = x.first ∷ x.second ∷ x.third ∷ []
+
+-- there is none: 0 in the first field
+abbrev pub none_in : Numbers → Bool
+none_in x = x.first == 0
 
 module _ {T : Type 0} where
   -- what stands in places 1, 2 and 3
@@ -92,3 +104,7 @@ module _ {T : Type 0} where
   -- the numbers of those that wait, from the output to the input
   abbrev pub waiting : (T → ℕ) → Queue T → List ℕ
   waiting number q = with_number number q.three (with_number number q.two (with_number number q.one []))
+
+-- one number, or none, as a list
+abbrev pub list_of : Option ℕ → List ℕ
+list_of o = with_number (λ n. n) o []

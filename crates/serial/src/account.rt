@@ -7,7 +7,7 @@ use crate::queue::Numbers;
 use crate::slip::{QueueCode, ReceiveCode, ShiftCode, Slip};
 
 // What becomes of a received character, and of a written byte, as a slip tells it.
-#[derive(Clone, Copy)]
+#[derive(Clone, Copy, Debug, PartialEq, Eq)]
 pub enum Fate {
     Delivered,
     Stripped,
@@ -20,7 +20,7 @@ pub enum Fate {
 }
 
 // How many met each fate.
-#[derive(Clone, Copy)]
+#[derive(Clone, Copy, Debug, Default, PartialEq, Eq)]
 pub struct Account {
     pub delivered: u32,
     pub stripped: u32,
@@ -60,16 +60,7 @@ impl Account {
         ensures any_order { AnyOrder }
         ensures joins { Joins }
     {
-        Account {
-            delivered: 0,
-            stripped: 0,
-            lost: 0,
-            received_cleared: 0,
-            overwritten: 0,
-            written_cleared: 0,
-            sent: 0,
-            cut: 0,
-        }
+        Account::default()
     }
 
     // What one slip tells.
@@ -151,5 +142,5 @@ fn how_many(numbers: Numbers) -> u32
 fn one_or_none(number: u32) -> u32
     ensures { result ≡ unless_zero number }
 {
-    if number == 0 { 0 } else { 1 }
+    u32::from(number != 0)
 }

@@ -1,10 +1,11 @@
 // What a serial part is given, and why it declines.
-ghost use Rattle.std.specs.Prelude.{◌≡◌};
-ghost use Rattle.serial.specs.Numbers.{Inverse};
-ghost use Rattle.serial.specs.Events.{refusal_number, refusal_of, bit_only, ranged};
+ghost use Rattle.std.specs.Prelude.{◌≡◌, ◌<◌};
+ghost use Rattle.serial.specs.Events.{refusal_number, refusal_of, pin_of, bit_only, ranged, bit_event, character_events};
+
+use crate::case::Case;
 
 // A cycle of the bus. One for another chip is idle.
-#[derive(Clone, Copy)]
+#[derive(Clone, Copy, Debug, PartialEq, Eq)]
 pub enum Cycle {
     Idle,
     Read { rs: u8 },
@@ -12,7 +13,7 @@ pub enum Cycle {
 }
 
 // One thing that happens to a part, as the caller hands it over: every byte may come in every field.
-#[derive(Clone, Copy)]
+#[derive(Clone, Copy, Debug, PartialEq, Eq)]
 pub enum Event {
     Bus(Cycle),
     ReceivedBit(u8),
@@ -20,41 +21,70 @@ pub enum Event {
     PinLevel { pin: u8, level: u8 },
 }
 
-// Why a call is declined.
-#[derive(Clone, Copy)]
-pub enum Refusal {
-    NotABit,
-    NoSuchPin,
-    FramedFull,
-    WrittenFull,
-    CutRecord,
-    UnknownKind,
-    BadPayload,
-    OutputShort,
-    TooLong,
+// The pins that get a level.
+#[derive(Clone, Copy, Debug, PartialEq, Eq)]
+pub enum Pin {
+    Reset,
+    Cts,
+    Dcd,
 }
 
-impl Refusal {
-    // The refusal's number, from 1 to 9.
-    pub fn number(self) -> u8
-        ensures number { result ≡ refusal_number self }
-        ensures inverse { Inverse refusal_number refusal_of }
-    {
-        match self {
-            Refusal::NotABit => 1,
-            Refusal::NoSuchPin => 2,
-            Refusal::FramedFull => 3,
-            Refusal::WrittenFull => 4,
-            Refusal::CutRecord => 5,
-            Refusal::UnknownKind => 6,
-            Refusal::BadPayload => 7,
-            Refusal::OutputShort => 8,
-            Refusal::TooLong => 9,
+// Why a call is declined.
+#[derive(Clone, Copy, Debug, PartialEq, Eq)]
+pub enum Refusal {
+    NotABit = 1,
+    NoSuchPin = 2,
+    FramedFull = 3,
+    WrittenFull = 4,
+    CutRecord = 5,
+    UnknownKind = 6,
+    BadPayload = 7,
+    OutputShort = 8,
+    TooLong = 9,
+}
+
+impl Case for Refusal {
+    ghost number_of = { refusal_number };
+
+    ghost case_of = { refusal_of };
+
+    fn number(self) -> u8 {
+        self as u8
+    }
+}
+
+impl TryFrom<u8> for Pin {
+    type Error = Refusal;
+
+    ghost try_from_gives = { λ pin r. r ≡ pin_of pin };
+
+    fn try_from(pin: u8) -> Result<Pin, Refusal> {
+        match pin {
+            0 => Ok(Pin::Reset),
+            1 => Ok(Pin::Cts),
+            2 => Ok(Pin::Dcd),
+            _ => Err(Refusal::NoSuchPin),
         }
     }
 }
 
 impl Event {
+    // The eight received bits of a character, lowest first.
+    pub fn character(byte: u8) -> [Event; 8]
+        ensures { result ≡ character_events byte }
+    {
+        [
+            bit_event(byte, 0),
+            bit_event(byte, 1),
+            bit_event(byte, 2),
+            bit_event(byte, 3),
+            bit_event(byte, 4),
+            bit_event(byte, 5),
+            bit_event(byte, 6),
+            bit_event(byte, 7),
+        ]
+    }
+
     // Whether every field is in its range: first the pin, then bit, level and register select.
     pub fn check_range(self) -> Result<(), Refusal>
         ensures { result ≡ ranged self }
@@ -64,13 +94,19 @@ impl Event {
             Event::Bus(Cycle::Read { rs }) | Event::Bus(Cycle::Write { rs, .. }) => check_bit(rs),
             Event::ReceivedBit(bit) => check_bit(bit),
             Event::PinLevel { pin, level } => {
-                if pin > 2 {
-                    return Err(Refusal::NoSuchPin);
-                }
+                Pin::try_from(pin)?;
                 check_bit(level)
             }
         }
     }
+}
+
+// The bit of a byte at a place.
+fn bit_event(byte: u8, place: u8) -> Event
+    requires { place < 8 }
+    ensures { result ≡ bit_event byte place }
+{
+    Event::ReceivedBit((byte >> place) % 2)
 }
 
 fn check_bit(value: u8) -> Result<(), Refusal>

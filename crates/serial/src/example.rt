@@ -6,7 +6,7 @@ ghost use Rattle.serial.specs.Examples.{line_of, examples, ExamplesHold};
 use crate::word::Form;
 
 // What is put on the line.
-#[derive(Clone, Copy)]
+#[derive(Clone, Copy, Debug, PartialEq, Eq)]
 pub enum Sending {
     Word(Form, u8),
     SyncFill(Form, u8),
@@ -27,7 +27,7 @@ impl Sending {
 }
 
 // An example: what is sent, and the bits that must come, the first one lowest, with their count.
-#[derive(Clone, Copy)]
+#[derive(Clone, Copy, Debug, PartialEq, Eq)]
 pub struct Example {
     pub sending: Sending,
     pub bits: u16,

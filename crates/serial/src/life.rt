@@ -1,15 +1,15 @@
 // A queue's life from its beginning: a list of moves carried out on a new queue, with all that it tells on the way.
 ghost use Rattle.std.specs.Prelude.{◌≡◌, ◌+◌, ◌<◌};
 ghost use Rattle.serial.specs.declared.life.Stopped.TheVariants.{NoMemory};
-ghost use Rattle.serial.specs.Queue.{empty_queue, fields};
-ghost use Rattle.serial.specs.Moves.{acted, act_of, list_of, quiet, tells, tells_of, enters_one, EveryLife, OneLife};
+ghost use Rattle.serial.specs.Queue.{empty_queue};
+ghost use Rattle.serial.specs.Moves.{acted, act_of, tells, tells_of, enters_one, EveryLife, OneLife};
 ghost use Rattle.serial.specs.Lived.{Lives};
 
 use crate::queue::{Numbers, Queue};
 use std::alloc::{AllocFailed, Global};
 
 // What can happen to a queue. What enters gets the next number, from 1 on.
-#[derive(Clone, Copy)]
+#[derive(Clone, Copy, Debug, PartialEq, Eq)]
 pub enum Move {
     Enter,
     Rise,
@@ -19,7 +19,7 @@ pub enum Move {
 }
 
 // How a thing leaves a queue.
-#[derive(Clone, Copy)]
+#[derive(Clone, Copy, Debug, PartialEq, Eq)]
 pub enum Way {
     Displaced,
     Taken,
@@ -27,7 +27,7 @@ pub enum Way {
 }
 
 // What a queue tells at one move: in which way things left, if any did, and their numbers.
-#[derive(Clone, Copy)]
+#[derive(Clone, Copy, Debug, Default, PartialEq, Eq)]
 pub struct Told {
     pub way: Option<Way>,
     pub who: Numbers,
@@ -41,7 +41,7 @@ pub struct Life {
 }
 
 // Why there is no life: more moves than there are numbers, or no memory for what is told.
-#[derive(Clone, Copy)]
+#[derive(Clone, Copy, Debug, PartialEq, Eq)]
 pub enum Stopped {
     TooMany,
     NoMemory,
@@ -90,10 +90,7 @@ fn begin() -> Queue<u32>
 fn enters_one(step: Move) -> u32
     ensures { result ≡ enters_one step }
 {
-    match step {
-        Move::Enter => 1,
-        Move::Rise | Move::Take | Move::Clear | Move::Nothing => 0,
-    }
+    u32::from(step == Move::Enter)
 }
 
 // Carries out one move; what enters gets the number `next`.
@@ -102,14 +99,14 @@ fn carry_out(queue: &mut Queue<u32>, step: Move, next: u32) -> Told
     ensures told { result ≡ tells_of queue.old (act_of step next) }
 {
     match step {
-        Move::Enter => tell(Way::Displaced, only(queue.enter(next))),
-        Move::Take => tell(Way::Taken, only(queue.take())),
+        Move::Enter => tell(Way::Displaced, queue.enter(next).into()),
+        Move::Take => tell(Way::Taken, queue.take().into()),
         Move::Clear => tell(Way::Emptied, queue.clear()),
         Move::Rise => {
             queue.rise();
-            tell_nobody()
+            Told::default()
         }
-        Move::Nothing => tell_nobody(),
+        Move::Nothing => Told::default(),
     }
 }
 
@@ -117,33 +114,8 @@ fn carry_out(queue: &mut Queue<u32>, step: Move, next: u32) -> Told
 fn tell(way: Way, who: Numbers) -> Told
     ensures { result ≡ tells way who }
 {
-    if who.first == 0 {
-        Told { way: None, who }
-    } else {
-        Told {
-            way: Some(way),
-            who,
-        }
-    }
-}
-
-// Nobody left.
-fn tell_nobody() -> Told
-    ensures { result ≡ quiet }
-{
     Told {
-        way: None,
-        who: only(None),
-    }
-}
-
-// The number of one thing, or of none, in the first field.
-fn only(thing: Option<u32>) -> Numbers
-    ensures { result ≡ fields (list_of thing) }
-{
-    Numbers {
-        first: thing.unwrap_or(0),
-        second: 0,
-        third: 0,
+        way: if who.is_empty() { None } else { Some(way) },
+        who,
     }
 }

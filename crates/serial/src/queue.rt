@@ -1,7 +1,9 @@
 // The three-place queue of each direction: things enter at place 1 and leave at place 3.
-ghost use Rattle.std.specs.Prelude.{◌≡◌, ℕ, is_some};
+ghost use Rattle.std.specs.Prelude.{◌≡◌, ℕ, [], ◌∷◌, is_some};
 ghost use Rattle.std.specs.Option.{option_map, unwrap_or};
-ghost use Rattle.serial.specs.Queue.{standing_at, placed, empty_queue, entered, risen, lifted, output_taken, numbers_by, waiting, fields, last_empty, LastEmpty};
+ghost use Rattle.serial.specs.Queue.{standing_at, placed, empty_queue, entered, risen, lifted, output_taken, numbers_by, waiting, fields, fields_of, none_in, list_of, last_empty, LastEmpty, place_number, place_of};
+
+use crate::case::Case;
 
 // What a queue can hold: things that carry a number.
 pub trait Numbered {
@@ -21,22 +23,69 @@ impl Numbered for u32 {
 }
 
 // Place 1 is the input and place 3 the output.
-#[derive(Clone, Copy)]
+#[derive(Clone, Copy, Debug, PartialEq, Eq)]
 pub enum Place {
-    One,
-    Two,
-    Three,
+    One = 1,
+    Two = 2,
+    Three = 3,
+}
+
+impl Case for Place {
+    ghost number_of = { place_number };
+
+    ghost case_of = { place_of };
+
+    fn number(self) -> u8 {
+        self as u8
+    }
 }
 
 // Up to three numbers, from the first field on, with zeros after them.
-#[derive(Clone, Copy)]
+#[derive(Clone, Copy, Debug, Default, PartialEq, Eq)]
 pub struct Numbers {
     pub first: u32,
     pub second: u32,
     pub third: u32,
 }
 
-#[derive(Clone, Copy)]
+// One number alone.
+impl From<u32> for Numbers {
+    ghost from_gives = { λ number r. r ≡ fields (number ∷ []) };
+
+    fn from(number: u32) -> Numbers {
+        Numbers {
+            first: number,
+            ..Numbers::default()
+        }
+    }
+}
+
+// One number alone, or none.
+impl From<Option<u32>> for Numbers {
+    ghost from_gives = { λ number r. r ≡ fields (list_of number) };
+
+    fn from(number: Option<u32>) -> Numbers {
+        number.map_or(Numbers::default(), Numbers::from)
+    }
+}
+
+impl Numbers {
+    // The three fields in order.
+    pub fn all(self) -> [u32; 3]
+        ensures { result ≡ fields_of self }
+    {
+        [self.first, self.second, self.third]
+    }
+
+    // Whether there is none: 0 in the first field.
+    pub fn is_empty(self) -> bool
+        ensures { result ≡ none_in self }
+    {
+        self.first == 0
+    }
+}
+
+#[derive(Clone, Copy, Debug, PartialEq, Eq)]
 pub struct Queue<T> {
     one: Option<T>,
     two: Option<T>,
@@ -172,10 +221,7 @@ impl<T: Numbered + Copy> Queue<T> {
 fn number_in<T: Numbered + Copy>(place: Option<T>) -> Option<u32>
     ensures { result ≡ option_map T.number place }
 {
-    match place {
-        Some(thing) => Some(thing.number()),
-        None => None,
-    }
+    place.map(|thing| thing.number())
 }
 
 // The same, with 0 for nothing.

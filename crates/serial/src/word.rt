@@ -1,23 +1,25 @@
 // The eight word forms: how a byte goes over the line as bits, and how bits are read as a byte.
 ghost use Rattle.std.specs.Prelude.{◌≡◌, ◌+◌, ◌%◌, ◌^◌, ◌<◌, false, [], ◌∷◌, ◌++◌};
-ghost use Rattle.serial.specs.Numbers.{Inverse};
+ghost use Rattle.serial.specs.Numbers.{Inverse, numbered};
 ghost use Rattle.serial.specs.Words.{select_of, forms, form_of, data_bits, parity_of, total_bits, word_of, handed, value_of, ones_in, bits_of, marks, kept_of, read_of, same_bits, matches, sync_fill, mark_fill, flipped, read_flipped, OneWord, ReadsWords, ReadsBack, OneFlipMarks};
 
-// Six, seven or eight data bits, bare or followed by a parity bit.
-#[derive(Clone, Copy)]
+use std::fmt;
+
+// Six, seven or eight data bits, bare or followed by a parity bit. Each form's number is that of its word select bits.
+#[derive(Clone, Copy, Debug, PartialEq, Eq)]
 pub enum Form {
-    SixEven,
-    SixOdd,
-    Seven,
-    Eight,
-    SevenEven,
-    SevenOdd,
-    EightEven,
-    EightOdd,
+    SixEven = 0b000,
+    SixOdd = 0b001,
+    Seven = 0b010,
+    Eight = 0b011,
+    SevenEven = 0b100,
+    SevenOdd = 0b101,
+    EightEven = 0b110,
+    EightOdd = 0b111,
 }
 
 // What follows the data bits: nothing, or the bit that makes the count of ones even or odd.
-#[derive(Clone, Copy)]
+#[derive(Clone, Copy, Debug, PartialEq, Eq)]
 pub enum Parity {
     Bare,
     Even,
@@ -46,33 +48,14 @@ impl Form {
         ensures form { result ≡ form_of select }
         ensures inverse { Inverse select_of form_of }
     {
-        match select {
-            0b000 => Some(Form::SixEven),
-            0b001 => Some(Form::SixOdd),
-            0b010 => Some(Form::Seven),
-            0b011 => Some(Form::Eight),
-            0b100 => Some(Form::SevenEven),
-            0b101 => Some(Form::SevenOdd),
-            0b110 => Some(Form::EightEven),
-            0b111 => Some(Form::EightOdd),
-            _ => None,
-        }
+        selected(&Form::all(), select)
     }
 
     // The word select bits that choose this form.
     pub fn select(self) -> u8
         ensures { result ≡ select_of self }
     {
-        match self {
-            Form::SixEven => 0b000,
-            Form::SixOdd => 0b001,
-            Form::Seven => 0b010,
-            Form::Eight => 0b011,
-            Form::SevenEven => 0b100,
-            Form::SevenOdd => 0b101,
-            Form::EightEven => 0b110,
-            Form::EightOdd => 0b111,
-        }
+        self as u8
     }
 
     // How many data bits a word has.
@@ -111,12 +94,11 @@ impl Form {
     pub fn pack(self, byte: u8) -> (u16, u8)
         ensures { result ≡ handed (word_of self byte) }
     {
-        let width = self.data_bits();
-        let data = u16::from(byte);
+        let data = self.data_of(u16::from(byte));
         match self.parity() {
-            Parity::Bare => (lowest(data, width), width),
-            Parity::Even => (append(data, width, odd_ones(data, width)), width + 1),
-            Parity::Odd => (append(data, width, 1 - odd_ones(data, width)), width + 1),
+            Parity::Bare => (data.lowest(), data.count),
+            Parity::Even => (data.append(data.odd_ones()), data.count + 1),
+            Parity::Odd => (data.append(1 - data.odd_ones()), data.count + 1),
         }
     }
 
@@ -124,15 +106,15 @@ impl Form {
     pub fn keep(self, byte: u8) -> u8
         ensures { result ≡ kept_of self byte }
     {
-        lowest(u16::from(byte), self.data_bits()) as u8
+        self.data_of(u16::from(byte)).lowest() as u8
     }
 
     // A word read: its data bits, with zeros above them, and its parity mark. Bits past the word's last don't matter.
     pub fn unpack(self, word: u16) -> (u8, bool)
         ensures { result ≡ read_of self (bits_of (total_bits self) word) }
     {
-        let data = lowest(word, self.data_bits());
-        (data as u8, self.parity().marks(word, self.total_bits()))
+        let data = self.data_of(word).lowest() as u8;
+        (data, self.parity().marks(self.word_in(word)))
     }
 
     // Whether a word matches the sync code: its oldest bits, at most eight, are the code's lowest.
@@ -150,7 +132,7 @@ impl Form {
         if total == 9 {
             self.pack(code)
         } else {
-            (lowest(u16::from(code), total), total)
+            (self.word_in(u16::from(code)).lowest(), total)
         }
     }
 
@@ -183,6 +165,26 @@ impl Form {
         Some(self.unpack(self.send_flipped(byte, place)))
     }
 
+    // The data bits of a word.
+    fn data_of(self, word: u16) -> Bits
+        ensures { (result.value ≡ word) × (result.count ≡ data_bits self) }
+    {
+        Bits {
+            value: word,
+            count: self.data_bits(),
+        }
+    }
+
+    // All bits of a word.
+    fn word_in(self, word: u16) -> Bits
+        ensures { (result.value ≡ word) × (result.count ≡ total_bits self) }
+    {
+        Bits {
+            value: word,
+            count: self.total_bits(),
+        }
+    }
+
     // What a byte puts on the line. Its promises bring the laws of words to the calls above.
     fn send(self, byte: u8) -> u16
         ensures word { bits_of (total_bits self) result ≡ word_of self byte }
@@ -204,27 +206,67 @@ impl Form {
     }
 }
 
+impl fmt::Display for Parity {
+    fn fmt<W: fmt::Write>(&self, f: &mut fmt::Formatter<W>) -> fmt::Result {
+        f.pad(match self {
+            Parity::Bare => "bare",
+            Parity::Even => "even",
+            Parity::Odd => "odd",
+        })
+    }
+}
+
 impl Parity {
-    // Whether a word of `count` bits gets the parity mark.
-    fn marks(self, word: u16, count: u8) -> bool
-        requires { count < 16 }
-        ensures { result ≡ marks self (ones_in (bits_of count word)) }
+    // Whether a word gets the parity mark.
+    fn marks(self, word: Bits) -> bool
+        ensures { result ≡ marks self (ones_in (bits_of word.count word.value)) }
     {
         match self {
             Parity::Bare => false,
-            Parity::Even => odd_ones(word, count) == 1,
-            Parity::Odd => odd_ones(word, count) == 0,
+            Parity::Even => word.odd_ones() == 1,
+            Parity::Odd => word.odd_ones() == 0,
         }
     }
 }
 
-// The `count` lowest bits of a word, and zeros above them.
-fn lowest(word: u16, count: u8) -> u16
-    requires { count < 16 }
-    ensures value { result ≡ value_of (bits_of count word) }
-    ensures rest { result ≡ word % 2 ^ count }
+// The `count` lowest bits of a number, the first one on the line lowest.
+#[derive(Clone, Copy)]
+struct Bits {
+    value: u16,
+    count: u8,
+    ghost few: { count < 16 },
+}
+
+impl Bits {
+    // Their number, with zeros above them.
+    fn lowest(self) -> u16
+        ensures value { result ≡ value_of (bits_of self.count self.value) }
+        ensures rest { result ≡ self.value % 2 ^ self.count }
+    {
+        self.value % (1 << self.count)
+    }
+
+    // 1 where the count of ones among them is odd, else 0.
+    fn odd_ones(self) -> u16
+        ensures { result ≡ ones_in (bits_of self.count self.value) % 2 }
+    {
+        (self.lowest().count_ones() % 2) as u16
+    }
+
+    // The number of these bits and one more above them.
+    fn append(self, bit: u16) -> u16
+        requires { (self.count < 15) × (bit < 2) }
+        ensures { result ≡ value_of (bits_of self.count self.value ++ bit ∷ []) }
+    {
+        self.lowest() | bit << self.count
+    }
+}
+
+// The first of some forms that has these select bits.
+fn selected(forms: &[Form], select: u8) -> Option<Form>
+    ensures { result ≡ numbered select_of forms.now select }
 {
-    word % (1 << count)
+    forms.iter().copied().find(|form| form.select() == select)
 }
 
 // Whether two words have the same `count` lowest bits.
@@ -232,21 +274,5 @@ fn same_lowest(a: u16, b: u16, count: u8) -> bool
     requires { count < 16 }
     ensures { result ≡ same_bits (bits_of count a) (bits_of count b) }
 {
-    lowest(a, count) == lowest(b, count)
-}
-
-// 1 where the count of ones among the `count` lowest bits is odd, else 0.
-fn odd_ones(word: u16, count: u8) -> u16
-    requires { count < 16 }
-    ensures { result ≡ ones_in (bits_of count word) % 2 }
-{
-    (lowest(word, count).count_ones() % 2) as u16
-}
-
-// The `count` lowest bits of a word, and one bit more above them.
-fn append(word: u16, count: u8, bit: u16) -> u16
-    requires { (count < 15) × (bit < 2) }
-    ensures { result ≡ value_of (bits_of count word ++ bit ∷ []) }
-{
-    lowest(word, count) | bit << count
+    Bits { value: a, count }.lowest() == Bits { value: b, count }.lowest()
 }

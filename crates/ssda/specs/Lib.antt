@@ -1,4 +1,5 @@
 pub mod Control
+pub mod Reception
 pub mod Receiver
 pub mod Transmitter
 pub mod Status

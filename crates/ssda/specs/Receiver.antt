@@ -42,6 +42,10 @@ followed r t = record { phase = t.phase; count = t.count; window = r.window; mat
 abbrev pub with_window : Receiver → ℕ → Receiver
 with_window r w = record { phase = r.phase; count = r.count; window = w; matched = r.matched; framed = r.framed }
 
+-- a bit as a number
+abbrev pub bit_value : Bool → ℕ
+bit_value b = cond b 1 0
+
 -- the newest of nine bits is the highest
 abbrev pub slid : Receiver → ℕ → Receiver
 slid r b = with_window r (r.window / 2 + b * 256)

@@ -1,5 +1,6 @@
 -- What each accepted event does to the state, and what it tells. Assumes nothing.
 use Rattle.std.specs.Prelude.{ℕ, ◌+◌, Bool, true, false, cond, ◌&&◌, [], ◌∷◌, Some, None, Option, ◌==◌}
+use Rattle.std.specs.Option.{unwrap_or}
 use Rattle.serial.specs.Queue.{empty_queue, entered, risen, output_taken, waiting, fields}
 use Rattle.serial.specs.Slips.{quiet_slip}
 use Rattle.serial.specs.declared.queue.Numbers.{Numbers}
@@ -132,11 +133,16 @@ cut_state s = with_shift s empty_shift
 abbrev pub slip_of : ReceiveCode → Numbers → QueueCode → Numbers → ShiftCode → ℕ → Slip
 slip_of c ns q ms h n = record { receive = c; received = ns; queue = q; queued = ms; shift = h; shifted = n }
 
--- on a slip: the byte that is being shifted is cut
+-- the shift code of a slip that had code c, once the byte of this number is cut, if one is
+abbrev pub cut_code : Option ℕ → ShiftCode → ShiftCode
+cut_code None c = c
+cut_code (Some n) c = sh.Cut
+
+-- on a slip: the byte that is being shifted, if one is, is cut
 abbrev pub cut_told : State → Slip → Slip
 cut_told s x =
     slip_of x.receive x.received x.queue x.queued
-    (cond (shifting_in s.front.timing s.shift == 0) x.shift sh.Cut) (shifting_in s.front.timing s.shift)
+    (cut_code (shifting_in s.front.timing s.shift) x.shift) (unwrap_or (shifting_in s.front.timing s.shift) 0)
 
 -- a reset of the receiver, if it is written
 abbrev pub receiver_reset : State → State
@@ -237,10 +243,9 @@ abbrev pub clocked : State → State
 clocked s = with_front (cond (loads_at s.front.timing) (loaded_state s) (advanced_state s)) (ticked_front s.front)
 
 -- a bit of a byte, or its last bit
-abbrev pub tell_shift : ℕ → Bool → Slip
-tell_shift n last =
-    cond (n == 0) quiet_slip
-    (slip_of rx.Nothing (fields []) qu.Nothing (fields []) (cond last sh.LastBit sh.Bit) n)
+abbrev pub tell_shift : Option ℕ → Bool → Slip
+tell_shift None last = quiet_slip
+tell_shift (Some n) last = slip_of rx.Nothing (fields []) qu.Nothing (fields []) (cond last sh.LastBit sh.Bit) n
 
 abbrev pub clock_told : State → Told
 clock_told s = record {

@@ -1,5 +1,5 @@
 -- What a call of the adapter does: the state after an event, the answer to it, and the numbers that wait or shift. Assumes nothing.
-use Rattle.std.specs.Prelude.{◌≡◌, ℕ, cond, Some, None, Ok, Err, Option, Result, ◌==◌}
+use Rattle.std.specs.Prelude.{◌≡◌, Ok, Err, Result}
 use Rattle.serial.specs.Queue.{numbers_by}
 use Rattle.serial.specs.declared.event.Event.{Event}
 use Rattle.serial.specs.declared.event.Refusal.{Refusal}
@@ -33,13 +33,10 @@ abbrev pub UnchangedIfRefused : Result Reply Refusal → State → State → Typ
 UnchangedIfRefused (Ok r) before after = Unit {0}
 UnchangedIfRefused (Err r) before after = after ≡ before
 
-abbrev pub number_if : ℕ → Option ℕ
-number_if n = cond (n == 0) None (Some n)
-
 -- which numbers wait, place by place, and which byte is being shifted
 abbrev pub standing_in : State → Standing
 standing_in s = record {
   received = numbers_by character_number s.receive;
   queued = numbers_by byte_number s.transmit;
-  shifting = number_if (shifting_in s.front.timing s.shift);
+  shifting = shifting_in s.front.timing s.shift;
 }

@@ -31,12 +31,12 @@ timing_after t was_held is_held = cond is_held Held (cond was_held Starting t)
 -- WHAT IT SHOWS
 
 abbrev pub empty_shift : Shift
-empty_shift = record { bits = 0; number = 0 }
+empty_shift = record { bits = 0; number = None }
 
 -- what is loaded: the word of the byte at the output; with none there the sync fill if Tx Sync is set, else the mark fill
 abbrev pub word_for : Option Byte → Form → ℕ → Bool → Shift
-word_for (Some b) f c sync = record { bits = value_of (word_of f b.byte); number = b.number }
-word_for None f c sync = record { bits = value_of (cond sync (sync_fill f c) (mark_fill f)); number = 0 }
+word_for (Some b) f c sync = record { bits = value_of (word_of f b.byte); number = Some b.number }
+word_for None f c sync = record { bits = value_of (cond sync (sync_fill f c) (mark_fill f)); number = None }
 
 abbrev pub underflows_for : Option Byte → Bool → Bool
 underflows_for (Some b) sync = false
@@ -51,8 +51,8 @@ bit_shown Held s = 1
 bit_shown Starting s = 1
 bit_shown (Showing left) s = s.bits % 2
 
--- the number of the byte that is being shifted, 0 if none is
-abbrev pub shifting_in : Timing → Shift → ℕ
-shifting_in Held s = 0
-shifting_in Starting s = 0
+-- the number of the byte that is being shifted, if one is
+abbrev pub shifting_in : Timing → Shift → Option ℕ
+shifting_in Held s = None
+shifting_in Starting s = None
 shifting_in (Showing left) s = s.number

@@ -5,7 +5,7 @@ ghost use Rattle.ssda.specs.Control.{bit_of, target_of, form_at, new_control, co
 use serial::word::Form;
 
 // Where a write with RS 1 goes, by the address control bits AC2 AC1.
-#[derive(Clone, Copy)]
+#[derive(Clone, Copy, Debug, PartialEq, Eq)]
 pub enum Target {
     C2,
     C3,
@@ -14,7 +14,7 @@ pub enum Target {
 }
 
 // Control register 1.
-#[derive(Clone, Copy)]
+#[derive(Clone, Copy, Debug, PartialEq, Eq)]
 pub struct Control {
     pub(crate) target: Target,
     pub(crate) rie: bool,
@@ -26,7 +26,7 @@ pub struct Control {
 }
 
 // What control registers 2 and 3 keep.
-#[derive(Clone, Copy)]
+#[derive(Clone, Copy, Debug, PartialEq, Eq)]
 pub struct Setup {
     pub(crate) eie: bool,
     pub(crate) tx_sync: bool,
@@ -150,8 +150,5 @@ fn target_of(byte: u8) -> Target
 fn form_at(byte: u8) -> Form
     ensures { result ≡ form_at byte }
 {
-    match Form::from_select((byte >> 3) % 8) {
-        Some(form) => form,
-        None => Form::SixEven,
-    }
+    Form::from_select((byte >> 3) % 8).unwrap_or(Form::SixEven)
 }

@@ -1,9 +1,11 @@
 // The front: all of the adapter that never looks at a queue. It decides what is framed, and when a word is loaded.
-ghost use Rattle.std.specs.Prelude.{◌≡◌, ◌+◌, ◌<◌, ◌≤◌};
+ghost use Rattle.std.specs.Prelude.{◌≡◌, ◌+◌, ◌<◌};
+ghost use Rattle.std.specs.Fn.{FnOnceReturnsAtMut};
+ghost use Rattle.ssda.specs.Receiver.{bit_value};
 ghost use Rattle.ssda.specs.Front.{new_front, off_of, held_of, framed_room, written_room, checked_by, strips_of, settled_front, wrote_c1, wrote_c2, wrote_c3, wrote_code, counted_write, heard_front, framed_front, ticked_front, with_cts, with_dcd, reset_fell, reset_rose};
 
 use crate::control::{Control, Setup, Target};
-use crate::receiver::{Character, Receiver};
+use crate::receiver::{Character, Mode, Receiver};
 use crate::transmitter::Timing;
 use serial::event::{Cycle, Event, Refusal};
 
@@ -11,14 +13,14 @@ use serial::event::{Cycle, Event, Refusal};
 pub(crate) const NUMBER_LIMIT: u32 = 16_000_000;
 
 // The levels of the pins; true is high.
-#[derive(Clone, Copy)]
+#[derive(Clone, Copy, Debug, PartialEq, Eq)]
 pub struct Pins {
     pub(crate) reset: bool,
     pub(crate) cts: bool,
     pub(crate) dcd: bool,
 }
 
-#[derive(Clone, Copy)]
+#[derive(Clone, Copy, Debug, PartialEq, Eq)]
 pub struct Front {
     pub(crate) control: Control,
     pub(crate) setup: Setup,
@@ -56,6 +58,17 @@ impl Front {
         self.control.rx_reset || self.pins.dcd || self.control.clear_sync
     }
 
+    // How the receiver is set.
+    fn mode(&self) -> Mode
+        ensures off { result.off ≡ off_of self.now }
+        ensures external { result.external ≡ self.now.setup.external }
+    {
+        Mode {
+            off: self.off(),
+            external: self.setup.external,
+        }
+    }
+
     // The transmitter is held while Tx Rs is set or CTS is high.
     pub(crate) fn held(&self) -> bool
         ensures { result ≡ held_of self.now }
@@ -78,7 +91,7 @@ impl Front {
     fn check_framed(&self) -> Result<(), Refusal>
         ensures { result ≡ framed_room self.now }
     {
-        if self.receiver.framed >= NUMBER_LIMIT {
+        if self.receiver.framed() >= NUMBER_LIMIT {
             return Err(Refusal::FramedFull);
         }
         Ok(())
@@ -95,13 +108,9 @@ impl Front {
 
     // A byte written to C1.
     pub(crate) fn write_c1(&mut self, byte: u8)
-        requires few { self.old.receiver.count ≤ 8 }
-        ensures front { self.new ≡ wrote_c1 self.old byte }
-        ensures few { self.new.receiver.count ≤ 8 }
+        ensures { self.new ≡ wrote_c1 self.old byte }
     {
-        let before = *self;
-        self.control = Control::from_byte(byte, self.pins.reset);
-        self.settle(&before);
+        self.change(|front| front.control = Control::from_byte(byte, front.pins.reset));
     }
 
     // A byte written to C2.
@@ -113,13 +122,9 @@ impl Front {
 
     // A byte written to C3.
     pub(crate) fn write_c3(&mut self, byte: u8)
-        requires few { self.old.receiver.count ≤ 8 }
-        ensures front { self.new ≡ wrote_c3 self.old byte }
-        ensures few { self.new.receiver.count ≤ 8 }
+        ensures { self.new ≡ wrote_c3 self.old byte }
     {
-        let before = *self;
-        self.setup.write_c3(byte, self.pins.reset);
-        self.settle(&before);
+        self.change(|front| front.setup.write_c3(byte, front.pins.reset));
     }
 
     // A byte written to the sync code.
@@ -140,26 +145,22 @@ impl Front {
     }
 
     // A received bit, and the character that it frames, if it frames one. Off, the receiver ignores it.
-    pub(crate) fn hear(&mut self, bit: u8) -> Option<Character>
-        requires few { self.old.receiver.count ≤ 8 }
-        requires bit { bit < 2 }
+    pub(crate) fn hear(&mut self, bit: bool) -> Option<Character>
         requires room { self.old.receiver.framed < 16000000 }
-        ensures front { self.new ≡ heard_front self.old bit }
-        ensures character { result ≡ framed_front self.old bit }
-        ensures few { self.new.receiver.count ≤ 8 }
+        ensures front { self.new ≡ heard_front self.old (bit_value bit) }
+        ensures character { result ≡ framed_front self.old (bit_value bit) }
     {
         if self.off() {
             return None;
         }
-        self.receiver
-            .hear(bit, self.setup.form, self.code, self.setup.one_sync)
+        self.receiver.hear(bit, &self.setup, self.code)
     }
 
     // Whether the character that the bit just heard has framed is stripped.
     pub(crate) fn strips(&self) -> bool
         ensures { result ≡ strips_of self.now }
     {
-        self.control.strip_sync && self.receiver.matched
+        self.control.strip_sync && self.receiver.matched()
     }
 
     // A transmit clock.
@@ -171,37 +172,27 @@ impl Front {
 
     // CTS gets a level.
     pub(crate) fn set_cts(&mut self, high: bool)
-        requires few { self.old.receiver.count ≤ 8 }
-        ensures front { self.new ≡ with_cts self.old high }
-        ensures few { self.new.receiver.count ≤ 8 }
+        ensures { self.new ≡ with_cts self.old high }
     {
-        let before = *self;
-        self.pins.cts = high;
-        self.settle(&before);
+        self.change(|front| front.pins.cts = high);
     }
 
     // DCD gets a level.
     pub(crate) fn set_dcd(&mut self, high: bool)
-        requires few { self.old.receiver.count ≤ 8 }
-        ensures front { self.new ≡ with_dcd self.old high }
-        ensures few { self.new.receiver.count ≤ 8 }
+        ensures { self.new ≡ with_dcd self.old high }
     {
-        let before = *self;
-        self.pins.dcd = high;
-        self.settle(&before);
+        self.change(|front| front.pins.dcd = high);
     }
 
     // RESET falls: both resets are set, and EIE, PC1, PC2 and external are cleared.
     pub(crate) fn fall_under_reset(&mut self)
-        requires few { self.old.receiver.count ≤ 8 }
-        ensures front { self.new ≡ reset_fell self.old }
-        ensures few { self.new.receiver.count ≤ 8 }
+        ensures { self.new ≡ reset_fell self.old }
     {
-        let before = *self;
-        self.pins.reset = false;
-        self.control.fall_under_reset();
-        self.setup.fall_under_reset();
-        self.settle(&before);
+        self.change(|front| {
+            front.pins.reset = false;
+            front.control.fall_under_reset();
+            front.setup.fall_under_reset();
+        });
     }
 
     // RESET rises: what it held at 0 or 1 stays so until it is written.
@@ -211,17 +202,23 @@ impl Front {
         self.pins.reset = true;
     }
 
+    // Sets something anew, with what that means for receiver and transmitter.
+    fn change<F: FnOnce(&mut Front)>(&mut self, set: F)
+        requires { F.IsAlwaysCallable set }
+        ensures { (changed : _) × FnOnceReturnsAtMut F.FnOnce set self.old tt changed × (self.new ≡ settled_front self.old changed) }
+    {
+        let before = *self;
+        set(self);
+        self.settle(&before);
+    }
+
     // What a new setting means for receiver and transmitter.
     fn settle(&mut self, before: &Front)
-        requires few { self.old.receiver.count ≤ 8 }
-        ensures front { self.new ≡ settled_front before.now self.old }
-        ensures few { self.new.receiver.count ≤ 8 }
+        ensures { self.new ≡ settled_front before.now self.old }
     {
-        let off = self.off();
+        let mode = self.mode();
         let held = self.held();
-        let external = self.setup.external;
-        let changed = external != before.setup.external;
-        self.receiver.settle(before.off(), off, changed, external);
+        self.receiver.settle(before.mode(), mode);
         self.timing.settle(before.held(), held);
     }
 }

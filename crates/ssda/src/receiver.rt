@@ -1,13 +1,16 @@
 // The receiver: it finds the sync code in the received bits and frames characters. It has no queue in it.
-ghost use Rattle.std.specs.Prelude.{◌≡◌, ◌+◌, ◌<◌, ◌≤◌};
+ghost use Rattle.std.specs.Prelude.{◌≡◌, ◌+◌, ◌<◌, ◌≤◌, not};
+ghost use Rattle.std.specs.Bool.{beq};
 ghost use Rattle.serial.specs.Words.{bits_of, total_bits};
-ghost use Rattle.ssda.specs.Receiver.{character_number, character_of, new_receiver, turn_of, slid, followed, heard, framed_by, ones_window, restarted, settled};
+ghost use Rattle.ssda.specs.Receiver.{character_number, character_of, new_receiver, turn_of, bit_value, slid, followed, heard, framed_by, restarted, settled};
 
+use crate::control::Setup;
 use serial::queue::Numbered;
 use serial::word::Form;
+use std::marker::Model;
 
 // What the receiver is doing: it searches for the sync code; it has seen one and expects a second; or it is in sync.
-#[derive(Clone, Copy)]
+#[derive(Clone, Copy, Debug, PartialEq, Eq)]
 pub enum Phase {
     Search,
     Second,
@@ -15,7 +18,7 @@ pub enum Phase {
 }
 
 // What happens to the receiver: a bit, which ends a character or not, or a restart.
-#[derive(Clone, Copy)]
+#[derive(Clone, Copy, Debug, PartialEq, Eq)]
 pub enum LineEvent {
     Bit { ends: bool },
     Restart { external: bool },
@@ -23,7 +26,7 @@ pub enum LineEvent {
 
 // What follows from it: the phase, the bits counted toward a character, whether the sync match shows, and whether a
 // character is framed.
-#[derive(Clone, Copy)]
+#[derive(Clone, Copy, Debug, PartialEq, Eq)]
 pub struct Turn {
     phase: Phase,
     count: u8,
@@ -32,7 +35,7 @@ pub struct Turn {
 }
 
 // A framed character: its number, its data bits and its parity mark.
-#[derive(Clone, Copy)]
+#[derive(Clone, Copy, Debug, PartialEq, Eq)]
 pub struct Character {
     pub(crate) number: u32,
     pub(crate) byte: u8,
@@ -47,14 +50,34 @@ impl Numbered for Character {
     }
 }
 
-// The window has the last nine bits, the oldest lowest.
-#[derive(Clone, Copy)]
+// The window has the last nine bits, the oldest lowest. At most eight bits are counted toward a character.
+#[derive(Clone, Copy, Debug, PartialEq, Eq)]
 pub struct Receiver {
-    pub(crate) phase: Phase,
-    pub(crate) count: u8,
-    pub(crate) window: u16,
-    pub(crate) matched: bool,
-    pub(crate) framed: u32,
+    phase: Phase,
+    count: u8,
+    window: u16,
+    matched: bool,
+    framed: u32,
+}
+
+impl Model for Receiver {
+    ghost use Rattle.std.specs.Prelude.{◌≤◌};
+    ghost use Rattle.ssda.specs.Reception.{Reception};
+
+    ghost Value = { Reception };
+
+    ghost view = { λ r. record { phase = r.phase; count = r.count; window = r.window; matched = r.matched; framed = r.framed } };
+
+    ghost invariant = { λ r. r.count ≤ 8 };
+
+    ghost inverse = { λ r. record { phase = r.phase; count = r.count; window = r.window; matched = r.matched; framed = r.framed } };
+}
+
+// How the receiver is set: whether it is off, and whether its sync is external.
+#[derive(Clone, Copy, Debug, PartialEq, Eq)]
+pub struct Mode {
+    pub(crate) off: bool,
+    pub(crate) external: bool,
 }
 
 impl Character {
@@ -81,32 +104,41 @@ impl Receiver {
         }
     }
 
+    // How many characters are framed.
+    pub(crate) fn framed(&self) -> u32
+        ensures { result ≡ self.now.framed }
+    {
+        self.framed
+    }
+
+    // Whether the sync match shows.
+    pub(crate) fn matched(&self) -> bool
+        ensures { result ≡ self.now.matched }
+    {
+        self.matched
+    }
+
+    // How many bits are counted toward a character: at most eight.
+    pub(crate) fn counted(&self) -> u8
+        ensures count { result ≡ self.now.count }
+        ensures few { result ≤ 8 }
+    {
+        self.count
+    }
+
     // A received bit while the receiver is on, and the character that it frames, if it frames one.
-    pub(crate) fn hear(
-        &mut self,
-        bit: u8,
-        form: Form,
-        code: u8,
-        one_sync: bool,
-    ) -> Option<Character>
-        requires few { self.old.count ≤ 8 }
-        requires bit { bit < 2 }
+    pub(crate) fn hear(&mut self, bit: bool, setup: &Setup, code: u8) -> Option<Character>
         requires room { self.old.framed < 16000000 }
-        ensures receiver { self.new ≡ heard self.old bit form code one_sync }
-        ensures character { result ≡ framed_by self.old bit form code one_sync }
-        ensures few { self.new.count ≤ 8 }
+        ensures receiver { self.new ≡ heard self.old (bit_value bit) setup.now.form code setup.now.one_sync }
+        ensures character { result ≡ framed_by self.old (bit_value bit) setup.now.form code setup.now.one_sync }
     {
         self.slide(bit);
+        let form = setup.form;
         let total = form.total_bits();
         let word = self.window >> (9 - total);
         let ends = self.count + 1 >= total;
-        let turn = decide(
-            self.phase,
-            LineEvent::Bit { ends },
-            form.matches(word, code),
-            one_sync,
-            self.count,
-        );
+        let matches = form.matches(word, code);
+        let turn = self.decide(LineEvent::Bit { ends }, matches, setup.one_sync);
         self.follow(turn);
         if !turn.framed {
             return None;
@@ -117,21 +149,13 @@ impl Receiver {
 
     // What a new setting means for the receiver: off, the match no longer shows; when it stops being off, and when external
     // changes while it is on, it restarts.
-    pub(crate) fn settle(
-        &mut self,
-        was_off: bool,
-        is_off: bool,
-        external_changed: bool,
-        external: bool,
-    )
-        requires few { self.old.count ≤ 8 }
-        ensures receiver { self.new ≡ settled self.old was_off is_off external_changed external }
-        ensures few { self.new.count ≤ 8 }
+    pub(crate) fn settle(&mut self, before: Mode, after: Mode)
+        ensures { self.new ≡ settled self.old before.off after.off (not (beq after.external before.external)) after.external }
     {
-        if is_off {
+        if after.off {
             self.matched = false;
-        } else if was_off || external_changed {
-            self.restart(external);
+        } else if before.off || after.external != before.external {
+            self.restart(after.external);
         }
     }
 
@@ -139,68 +163,51 @@ impl Receiver {
     fn restart(&mut self, external: bool)
         ensures { self.new ≡ restarted self.old external }
     {
-        self.fill_window();
-        let turn = decide(self.phase, LineEvent::Restart { external }, false, false, 0);
+        self.window = 511;
+        let turn = self.decide(LineEvent::Restart { external }, false, false);
         self.follow(turn);
     }
 
-    fn fill_window(&mut self)
-        ensures { self.new ≡ ones_window self.old }
-    {
-        self.window = 511;
-    }
-
     // The newest bit enters the window, and the oldest leaves it.
-    fn slide(&mut self, bit: u8)
-        requires { bit < 2 }
-        ensures { self.new ≡ slid self.old bit }
+    fn slide(&mut self, bit: bool)
+        ensures { self.new ≡ slid self.old (bit_value bit) }
     {
         self.window = self.window / 2 + u16::from(bit) * 256;
     }
 
+    // The receiver goes on with the phase, the count and the match of a turn.
     fn follow(&mut self, turn: Turn)
+        requires { turn.count ≤ 8 }
         ensures { self.new ≡ followed self.old turn }
     {
         self.phase = turn.phase;
         self.count = turn.count;
         self.matched = turn.matched;
     }
-}
 
-// The receiver's phase, what happens and the match together decide.
-fn decide(phase: Phase, event: LineEvent, matches: bool, one_sync: bool, count: u8) -> Turn
-    requires { count ≤ 8 }
-    ensures { result ≡ turn_of phase event matches one_sync count }
-{
-    match (phase, event, matches) {
-        (_, LineEvent::Restart { external: true }, _) => to(Phase::InSync, 0, false, false),
-        (_, LineEvent::Restart { external: false }, _) => to(Phase::Search, 0, false, false),
-        (Phase::Search, LineEvent::Bit { .. }, false) => to(Phase::Search, count, false, false),
-        (Phase::Search, LineEvent::Bit { .. }, true) => {
-            if one_sync {
-                to(Phase::InSync, 0, true, false)
-            } else {
-                to(Phase::Second, 0, true, false)
-            }
+    // The phase, what happens and the match together decide.
+    fn decide(&self, event: LineEvent, matches: bool, one_sync: bool) -> Turn
+        ensures { result ≡ turn_of self.now.phase event matches one_sync self.now.count }
+    {
+        use LineEvent::{Bit, Restart};
+        use Phase::{InSync, Search, Second};
+        let count = self.count;
+        match (self.phase, event, matches) {
+            (_, Restart { external: true }, _) => to(InSync, 0, false, false),
+            (_, Restart { external: false }, _) => to(Search, 0, false, false),
+            (Search, Bit { .. }, false) => to(Search, count, false, false),
+            (Search, Bit { .. }, true) if one_sync => to(InSync, 0, true, false),
+            (Search, Bit { .. }, true) => to(Second, 0, true, false),
+            (Second, Bit { ends: false }, _) => to(Second, count + 1, false, false),
+            (Second, Bit { ends: true }, false) => to(Search, 0, false, false),
+            (Second, Bit { ends: true }, true) => to(InSync, 0, true, false),
+            (InSync, Bit { ends: false }, _) => to(InSync, count + 1, false, false),
+            (InSync, Bit { ends: true }, _) => to(InSync, 0, matches, true),
         }
-        (Phase::Second, LineEvent::Bit { ends: false }, _) => to(
-            Phase::Second,
-            count + 1,
-            false,
-            false,
-        ),
-        (Phase::Second, LineEvent::Bit { ends: true }, false) => to(Phase::Search, 0, false, false),
-        (Phase::Second, LineEvent::Bit { ends: true }, true) => to(Phase::InSync, 0, true, false),
-        (Phase::InSync, LineEvent::Bit { ends: false }, _) => to(
-            Phase::InSync,
-            count + 1,
-            false,
-            false,
-        ),
-        (Phase::InSync, LineEvent::Bit { ends: true }, _) => to(Phase::InSync, 0, matches, true),
     }
 }
 
+// A turn to this phase, with so many bits counted.
 fn to(phase: Phase, count: u8, matched: bool, framed: bool) -> Turn
     ensures { result ≡ record { phase = phase; count = count; matched = matched; framed = framed } }
 {

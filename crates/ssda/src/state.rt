@@ -11,7 +11,7 @@ use serial::queue::{Place, Queue};
 use serial::slip::Standing;
 
 // `last` is the byte that was taken last.
-#[derive(Clone, Copy)]
+#[derive(Clone, Copy, Debug, PartialEq, Eq)]
 pub struct State {
     pub(crate) front: Front,
     pub(crate) receive: Queue<Character>,
@@ -60,10 +60,9 @@ impl State {
     fn marked(&self) -> bool
         ensures { result ≡ marked_of self.now }
     {
-        match self.receive.output() {
-            Some(character) => character.mark,
-            None => false,
-        }
+        self.receive
+            .output()
+            .is_some_and(|character| character.mark)
     }
 
     // What Status and the interrupt go by, besides the flags.
@@ -102,18 +101,17 @@ impl State {
     pub(crate) fn sm_dtr(&self) -> bool
         ensures { result ≡ sm_dtr_of self.now }
     {
-        sm_dtr(self.front.setup, self.front.receiver.matched)
+        sm_dtr(self.front.setup, self.front.receiver.matched())
     }
 
     // Which numbers wait, place by place, and which byte is being shifted.
     pub(crate) fn standing(&self) -> Standing
         ensures { result ≡ standing_in self.now }
     {
-        let number = self.shift.number_at(self.front.timing);
         Standing {
             received: self.receive.numbers(),
             queued: self.transmit.numbers(),
-            shifting: if number == 0 { None } else { Some(number) },
+            shifting: self.shift.number_at(self.front.timing),
         }
     }
 }

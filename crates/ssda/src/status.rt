@@ -1,11 +1,11 @@
 // What the adapter remembers for its Status, and the Status byte.
-ghost use Rattle.std.specs.Prelude.{◌≡◌, ◌≤◌, if◌then◌else◌};
+ghost use Rattle.std.specs.Prelude.{◌≡◌, ◌^◌, ◌<◌, ◌≤◌, if◌then◌else◌};
 ghost use Rattle.ssda.specs.Status.{new_flags, after_loss, after_status_read, after_data_read, after_dcd_rise, after_cts_rise, after_underflow, after_c3, after_receiver_reset, after_transmitter_reset, status_byte, asks, sm_dtr};
 
 use crate::control::{Control, Setup, bit_of};
 
 // What is stored until it is cleared. An armed flag is cleared by the next data read.
-#[derive(Clone, Copy)]
+#[derive(Clone, Copy, Debug, Default, PartialEq, Eq)]
 pub struct Flags {
     pub(crate) overrun: bool,
     pub(crate) overrun_armed: bool,
@@ -16,7 +16,7 @@ pub struct Flags {
 }
 
 // The eight bits of Status but for the interrupt, with the stored CTS and DCD that the interrupt goes by.
-#[derive(Clone, Copy)]
+#[derive(Clone, Copy, Debug, PartialEq, Eq)]
 pub struct Conditions {
     pub(crate) rda: bool,
     pub(crate) tdra: bool,
@@ -30,14 +30,7 @@ impl Flags {
     pub(crate) fn new() -> Flags
         ensures { result ≡ new_flags }
     {
-        Flags {
-            overrun: false,
-            overrun_armed: false,
-            dcd: false,
-            dcd_armed: false,
-            cts: false,
-            underflow: false,
-        }
+        Flags::default()
     }
 
     // A character is lost: overrun is set, and its arm is dropped.
@@ -130,21 +123,23 @@ pub(crate) fn interrupt(
 pub(crate) fn status_byte(flags: Flags, conditions: Conditions, interrupt: bool) -> u8
     ensures { result ≡ status_byte flags conditions interrupt }
 {
-    weight(conditions.rda, 1)
-        + weight(conditions.tdra, 2)
-        + weight(flags.dcd || conditions.dcd_high, 4)
-        + weight(flags.cts || conditions.cts_high, 8)
-        + weight(flags.underflow, 16)
-        + weight(flags.overrun, 32)
-        + weight(conditions.parity, 64)
-        + weight(interrupt, 128)
+    bit_if(conditions.rda, 0)
+        + bit_if(conditions.tdra, 1)
+        + bit_if(flags.dcd || conditions.dcd_high, 2)
+        + bit_if(flags.cts || conditions.cts_high, 3)
+        + bit_if(flags.underflow, 4)
+        + bit_if(flags.overrun, 5)
+        + bit_if(conditions.parity, 6)
+        + bit_if(interrupt, 7)
 }
 
-fn weight(flag: bool, value: u8) -> u8
-    ensures value { result ≡ (if flag then value else 0) }
-    ensures bound { result ≤ value }
+// The byte in which only the bit at this place is set, if the flag is, and else none.
+fn bit_if(flag: bool, place: u8) -> u8
+    requires { place < 8 }
+    ensures value { result ≡ (if flag then 2 ^ place else 0) }
+    ensures bound { result ≤ 2 ^ place }
 {
-    if flag { value } else { 0 }
+    u8::from(flag) << place
 }
 
 // The SM/DTR pin, by PC2 and PC1 and the sync match.

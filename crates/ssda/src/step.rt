@@ -1,23 +1,31 @@
 // What each accepted event does to the state, and what it tells.
-ghost use Rattle.std.specs.Prelude.{◌≡◌, ◌<◌, ◌≤◌, false, [], ◌∷◌};
-ghost use Rattle.ssda.specs.Step.{told_of, idled, status_was_read, status_told, data_was_read, data_told, took_in, bit_told, data_was_written, write_told, with_character, loss_told, tell_receive, tell_queue, delivered, tell_shift, cut_state, cut_told, receiver_reset_if, receiver_reset_told, transmitter_reset_if, transmitter_reset_told, c1_was_written, c1_told, fell_under_reset, reset_told, reset_changed, reset_change_told, c3_was_written, cts_changed, cts_told, dcd_changed, loaded_state, advanced_state, clocked, clock_told};
+ghost use Rattle.std.specs.Prelude.{◌≡◌, ◌<◌};
+ghost use Rattle.ssda.specs.Step.{told_of, idled, status_was_read, status_told, data_was_read, data_told, took_in, bit_told, data_was_written, write_told, with_character, loss_told, tell_receive, tell_queue, delivered, tell_shift, cut_state, cut_told, receiver_reset_if, receiver_reset_told, transmitter_reset_if, transmitter_reset_told, c1_was_written, c1_told, fell_under_reset, reset_told, reset_changed, reset_change_told, c3_was_written, cts_changed, cts_told, dcd_changed, loaded_state, clocked, clock_told};
+ghost use Rattle.ssda.specs.Receiver.{bit_value};
 ghost use Rattle.ssda.specs.Transmitter.{underflows_for};
-ghost use Rattle.serial.specs.Queue.{fields};
 ghost use Rattle.serial.specs.Slips.{quiet_slip};
 
 use crate::control::bit_of;
 use crate::receiver::Character;
 use crate::state::State;
 use crate::transmitter::Byte;
-use serial::queue::Numbers;
 use serial::slip::{QueueCode, ReceiveCode, ShiftCode, Slip};
 
 // What an event tells besides the signals after it: the byte read or bit sent, the underflow pulse, and the slip.
-#[derive(Clone, Copy)]
+#[derive(Clone, Copy, Debug, PartialEq, Eq)]
 pub struct Told {
     pub(crate) value: u8,
     pub(crate) underflow: bool,
     pub(crate) slip: Slip,
+}
+
+impl Told {
+    // Nothing is told.
+    pub(crate) fn quiet() -> Told
+        ensures { result ≡ told_of 0 quiet_slip }
+    {
+        tell(0, Slip::quiet())
+    }
 }
 
 impl State {
@@ -28,7 +36,7 @@ impl State {
     {
         self.receive.rise();
         self.transmit.rise();
-        tell(0, Slip::quiet())
+        Told::quiet()
     }
 
     // A Status read.
@@ -57,23 +65,17 @@ impl State {
     }
 
     // A received bit.
-    pub(crate) fn receive_bit(&mut self, bit: u8) -> Told
-        requires few { self.old.front.receiver.count ≤ 8 }
-        requires bit { bit < 2 }
+    pub(crate) fn receive_bit(&mut self, bit: bool) -> Told
         requires room { self.old.front.receiver.framed < 16000000 }
-        ensures state { self.new ≡ took_in self.old bit }
-        ensures told { result ≡ bit_told self.old bit }
-        ensures few { self.new.front.receiver.count ≤ 8 }
+        ensures state { self.new ≡ took_in self.old (bit_value bit) }
+        ensures told { result ≡ bit_told self.old (bit_value bit) }
     {
         match self.front.hear(bit) {
-            Some(character) => {
-                if self.front.strips() {
-                    tell(0, tell_receive(ReceiveCode::Stripped, character.number))
-                } else {
-                    self.take_in(character)
-                }
+            Some(character) if self.front.strips() => {
+                tell(0, tell_receive(ReceiveCode::Stripped, character.number))
             }
-            None => tell(0, Slip::quiet()),
+            Some(character) => self.take_in(character),
+            None => Told::quiet(),
         }
     }
 
@@ -87,7 +89,7 @@ impl State {
                 self.flags.lose();
                 tell(0, tell_receive(ReceiveCode::Lost, lost.number))
             }
-            None => tell(0, Slip::quiet()),
+            None => Told::quiet(),
         }
     }
 
@@ -100,16 +102,14 @@ impl State {
         let number = self.front.count_write();
         match self.transmit.enter(Byte { number, byte }) {
             Some(overwritten) => tell(0, tell_queue(QueueCode::Overwritten, overwritten.number)),
-            None => tell(0, Slip::quiet()),
+            None => Told::quiet(),
         }
     }
 
     // A write to C1, with the resets that it makes.
     pub(crate) fn write_c1(&mut self, byte: u8) -> Told
-        requires few { self.old.front.receiver.count ≤ 8 }
         ensures state { self.new ≡ c1_was_written self.old byte }
         ensures told { result ≡ c1_told self.old byte }
-        ensures few { self.new.front.receiver.count ≤ 8 }
     {
         let mut slip = Slip::quiet();
         self.reset_receiver_if(bit_of(byte, 0), &mut slip);
@@ -120,24 +120,21 @@ impl State {
 
     // RESET gets another level.
     pub(crate) fn change_reset(&mut self, high: bool) -> Told
-        requires few { self.old.front.receiver.count ≤ 8 }
         ensures state { self.new ≡ reset_changed self.old high }
         ensures told { result ≡ reset_change_told self.old high }
-        ensures few { self.new.front.receiver.count ≤ 8 }
     {
-        if !high {
-            return self.fall_under_reset();
+        if high {
+            self.front.rise_from_reset();
+            Told::quiet()
+        } else {
+            self.fall_under_reset()
         }
-        self.front.rise_from_reset();
-        tell(0, Slip::quiet())
     }
 
     // RESET falls: both resets, and what RESET holds.
     fn fall_under_reset(&mut self) -> Told
-        requires few { self.old.front.receiver.count ≤ 8 }
         ensures state { self.new ≡ fell_under_reset self.old }
         ensures told { result ≡ reset_told self.old }
-        ensures few { self.new.front.receiver.count ≤ 8 }
     {
         let mut slip = Slip::quiet();
         self.reset_receiver_if(true, &mut slip);
@@ -148,22 +145,18 @@ impl State {
 
     // A write to C3: what it clears, and what it keeps.
     pub(crate) fn write_c3(&mut self, byte: u8) -> Told
-        requires few { self.old.front.receiver.count ≤ 8 }
         ensures state { self.new ≡ c3_was_written self.old byte }
         ensures told { result ≡ told_of 0 quiet_slip }
-        ensures few { self.new.front.receiver.count ≤ 8 }
     {
         self.flags.write_c3(byte);
         self.front.write_c3(byte);
-        tell(0, Slip::quiet())
+        Told::quiet()
     }
 
     // CTS gets another level. Rising, it is stored and cuts the byte that is being shifted.
     pub(crate) fn change_cts(&mut self, high: bool) -> Told
-        requires few { self.old.front.receiver.count ≤ 8 }
         ensures state { self.new ≡ cts_changed self.old high }
         ensures told { result ≡ cts_told self.old high }
-        ensures few { self.new.front.receiver.count ≤ 8 }
     {
         let mut slip = Slip::quiet();
         if high {
@@ -176,16 +169,14 @@ impl State {
 
     // DCD gets another level. Rising, it is stored.
     pub(crate) fn change_dcd(&mut self, high: bool) -> Told
-        requires few { self.old.front.receiver.count ≤ 8 }
         ensures state { self.new ≡ dcd_changed self.old high }
         ensures told { result ≡ told_of 0 quiet_slip }
-        ensures few { self.new.front.receiver.count ≤ 8 }
     {
         if high {
             self.flags.raise_dcd();
         }
         self.front.set_dcd(high);
-        tell(0, Slip::quiet())
+        Told::quiet()
     }
 
     // A transmit clock shows a bit; one that shows a word's last bit, or none after a hold, loads the next word.
@@ -199,7 +190,8 @@ impl State {
         let underflow = if timing.loads() {
             self.load()
         } else {
-            self.advance()
+            self.shift.advance();
+            false
         };
         self.front.tick();
         Told {
@@ -214,26 +206,12 @@ impl State {
         ensures state { self.new ≡ loaded_state self.old }
         ensures underflow { result ≡ underflows_for self.old.transmit.three self.old.front.setup.tx_sync }
     {
-        let setup = self.front.setup;
-        let underflow = self.shift.load(
-            self.transmit.take(),
-            setup.form,
-            self.front.code,
-            setup.tx_sync,
-        );
+        let output = self.transmit.take();
+        let underflow = self.shift.load(output, &self.front.setup, self.front.code);
         if underflow {
             self.flags.underflow();
         }
         underflow
-    }
-
-    // The word that is being shown goes one bit further, which is no underflow.
-    fn advance(&mut self) -> bool
-        ensures state { self.new ≡ advanced_state self.old }
-        ensures underflow { result ≡ false }
-    {
-        self.shift.advance();
-        false
     }
 
     // The receive queue is emptied, and overrun, the stored DCD and both arms are cleared.
@@ -243,7 +221,7 @@ impl State {
     {
         if written {
             let cleared = self.receive.clear();
-            if cleared.first != 0 {
+            if !cleared.is_empty() {
                 slip.receive = ReceiveCode::Cleared;
             }
             slip.received = cleared;
@@ -258,7 +236,7 @@ impl State {
     {
         if written {
             let cleared = self.transmit.clear();
-            if cleared.first != 0 {
+            if !cleared.is_empty() {
                 slip.queue = QueueCode::Cleared;
             }
             slip.queued = cleared;
@@ -273,30 +251,33 @@ impl State {
         ensures slip { slip.new ≡ cut_told self.old slip.old }
     {
         let number = self.shift.cut(self.front.timing);
-        if number != 0 {
+        if number.is_some() {
             slip.shift = ShiftCode::Cut;
         }
-        slip.shifted = number;
+        slip.shifted = number.unwrap_or(0);
     }
 }
 
 // A slip that tells a bit of a byte, or its last bit.
-fn tell_shift(number: u32, last: bool) -> Slip
+fn tell_shift(number: Option<u32>, last: bool) -> Slip
     ensures { result ≡ tell_shift number last }
 {
-    let mut slip = Slip::quiet();
-    if number != 0 {
-        slip.shift = if last {
-            ShiftCode::LastBit
-        } else {
-            ShiftCode::Bit
-        };
-        slip.shifted = number;
+    match number {
+        Some(shifted) => Slip {
+            shift: if last {
+                ShiftCode::LastBit
+            } else {
+                ShiftCode::Bit
+            },
+            shifted,
+            ..Slip::quiet()
+        },
+        None => Slip::quiet(),
     }
-    slip
 }
 
-pub(crate) fn tell(value: u8, slip: Slip) -> Told
+// A value and a slip are told, and no underflow.
+fn tell(value: u8, slip: Slip) -> Told
     ensures { result ≡ told_of value slip }
 {
     Told {
@@ -312,7 +293,7 @@ fn tell_receive(receive: ReceiveCode, number: u32) -> Slip
 {
     Slip {
         receive,
-        received: only(number),
+        received: number.into(),
         ..Slip::quiet()
     }
 }
@@ -323,7 +304,7 @@ fn tell_queue(queue: QueueCode, number: u32) -> Slip
 {
     Slip {
         queue,
-        queued: only(number),
+        queued: number.into(),
         ..Slip::quiet()
     }
 }
@@ -332,19 +313,10 @@ fn tell_queue(queue: QueueCode, number: u32) -> Slip
 fn delivery(character: Character) -> Slip
     ensures { result ≡ delivered character }
 {
-    if character.mark {
-        tell_receive(ReceiveCode::DeliveredMarked, character.number)
+    let receive = if character.mark {
+        ReceiveCode::DeliveredMarked
     } else {
-        tell_receive(ReceiveCode::Delivered, character.number)
-    }
-}
-
-fn only(number: u32) -> Numbers
-    ensures { result ≡ fields (number ∷ []) }
-{
-    Numbers {
-        first: number,
-        second: 0,
-        third: 0,
-    }
+        ReceiveCode::Delivered
+    };
+    tell_receive(receive, character.number)
 }

@@ -2,11 +2,11 @@
 ghost use Rattle.std.specs.Prelude.{◌≡◌};
 ghost use Rattle.ssda.specs.Transmitter.{loads_at, ticked, timing_after, byte_number, empty_shift, word_for, underflows_for, shifted_on, bit_shown, shifting_in};
 
+use crate::control::Setup;
 use serial::queue::Numbered;
-use serial::word::Form;
 
 // A byte written to transmit data, with its number.
-#[derive(Clone, Copy)]
+#[derive(Clone, Copy, Debug, PartialEq, Eq)]
 pub struct Byte {
     pub(crate) number: u32,
     pub(crate) byte: u8,
@@ -21,18 +21,18 @@ impl Numbered for Byte {
 }
 
 // Where the transmitter is: held; starting, so that the next clock loads; or showing a word, with so many bits to come.
-#[derive(Clone, Copy)]
+#[derive(Clone, Copy, Debug, PartialEq, Eq)]
 pub enum Timing {
     Held,
     Starting,
     Showing { left: u8 },
 }
 
-// The word that is being shown: the bits to come, the next one lowest, and the number of the byte, 0 for a fill.
-#[derive(Clone, Copy)]
+// The word that is being shown: the bits to come, the next one lowest, and the number of the byte, none for a fill.
+#[derive(Clone, Copy, Debug, Default, PartialEq, Eq)]
 pub struct Shift {
     pub(crate) bits: u16,
-    pub(crate) number: u32,
+    pub(crate) number: Option<u32>,
 }
 
 impl Timing {
@@ -51,17 +51,12 @@ impl Timing {
     pub(crate) fn tick(&mut self, total: u8)
         ensures { self.new ≡ ticked self.old total }
     {
-        match *self {
-            Timing::Held => {}
-            Timing::Starting => *self = Timing::Showing { left: total },
-            Timing::Showing { left } => {
-                if left <= 1 {
-                    *self = Timing::Showing { left: total };
-                } else {
-                    *self = Timing::Showing { left: left - 1 };
-                }
-            }
-        }
+        *self = match *self {
+            Timing::Held => Timing::Held,
+            Timing::Starting => Timing::Showing { left: total },
+            Timing::Showing { left } if left <= 1 => Timing::Showing { left: total },
+            Timing::Showing { left } => Timing::Showing { left: left - 1 },
+        };
     }
 
     // What a new setting means for the transmitter: held, or starting when the hold ends.
@@ -81,30 +76,29 @@ impl Shift {
     pub(crate) fn new() -> Shift
         ensures { result ≡ empty_shift }
     {
-        Shift { bits: 0, number: 0 }
+        Shift::default()
     }
 
     // The word of the byte that stands at the output, or else a fill. Answers whether that is an underflow.
-    pub(crate) fn load(&mut self, output: Option<Byte>, form: Form, code: u8, tx_sync: bool) -> bool
-        ensures shift { self.new ≡ word_for output form code tx_sync }
-        ensures underflow { result ≡ underflows_for output tx_sync }
+    pub(crate) fn load(&mut self, output: Option<Byte>, setup: &Setup, code: u8) -> bool
+        ensures shift { self.new ≡ word_for output setup.now.form code setup.now.tx_sync }
+        ensures underflow { result ≡ underflows_for output setup.now.tx_sync }
     {
-        let (bits, number, underflow) = match output {
-            Some(byte) => (form.pack(byte.byte).0, byte.number, false),
-            None => {
-                if tx_sync {
-                    (form.sync_fill(code).0, 0, true)
-                } else {
-                    (form.mark_fill().0, 0, false)
-                }
-            }
+        let form = setup.form;
+        let (bits, _) = match output {
+            Some(byte) => form.pack(byte.byte),
+            None if setup.tx_sync => form.sync_fill(code),
+            None => form.mark_fill(),
         };
-        *self = Shift { bits, number };
-        underflow
+        *self = Shift {
+            bits,
+            number: output.map(|byte| byte.number),
+        };
+        output.is_none() && setup.tx_sync
     }
 
-    // The word is given up. Answers the number of the byte that is cut, 0 if none is being shifted.
-    pub(crate) fn cut(&mut self, timing: Timing) -> u32
+    // The word is given up. Answers the number of the byte that is cut, if one is being shifted.
+    pub(crate) fn cut(&mut self, timing: Timing) -> Option<u32>
         ensures shift { self.new ≡ empty_shift }
         ensures number { result ≡ shifting_in timing self.old }
     {
@@ -130,12 +124,12 @@ impl Shift {
         }
     }
 
-    // The number of the byte that is being shifted, 0 if none is.
-    pub(crate) fn number_at(self, timing: Timing) -> u32
+    // The number of the byte that is being shifted, if one is.
+    pub(crate) fn number_at(self, timing: Timing) -> Option<u32>
         ensures { result ≡ shifting_in timing self }
     {
         match timing {
-            Timing::Held | Timing::Starting => 0,
+            Timing::Held | Timing::Starting => None,
             Timing::Showing { .. } => self.number,
         }
     }

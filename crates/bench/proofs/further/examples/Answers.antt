@@ -1,0 +1,6 @@
+use Rattle.bench.proofs.Examples.{further_hold}
+use Rattle.bench.proofs.further.examples.Goals as goal
+
+-- the theorem holds of the table; nothing is searched for in it
+pub returns-clause-hold : goal.returns-clause-hold
+returns-clause-hold c = further_hold

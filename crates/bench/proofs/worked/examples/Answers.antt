@@ -1,0 +1,6 @@
+use Rattle.bench.proofs.Examples.{worked_hold}
+use Rattle.bench.proofs.worked.examples.Goals as goal
+
+-- the theorem holds of the table; nothing is searched for in it
+pub returns-clause-hold : goal.returns-clause-hold
+returns-clause-hold c = worked_hold

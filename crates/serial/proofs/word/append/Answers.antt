@@ -1,9 +1,0 @@
-use Rattle.std.proofs.Common.{◌*◌, ◌%◌, ◌^◌, ap, ◌∙◌, arith}
-use lib.Bits.{bit_or}
-use Rattle.serial.proofs.Bits.{value_with}
-use Rattle.serial.proofs.word.append.Goals as goal
-
-pub returns : goal.returns
-returns c =
-    ap (λ low. bit_or low (c.args.bit * 2 ^ c.args.count % 65536)) c.lowest.ensures.rest
-    ∙ value_with c.args.count c.args.word c.args.bit (omega arith) (omega arith)
