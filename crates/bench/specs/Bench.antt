@@ -1,5 +1,5 @@
 -- What is done at the bench, and what is seen there, by the definitions that the adapter's calls promise. Assumes nothing.
-use Rattle.std.specs.Prelude.{◌≡◌, ℕ, zero, suc, ◌+◌, ◌*◌, false, cond, List, [], ◌∷◌, ◌++◌, Ok, Err, vec_items, fold, Result, Vec, nat_lt}
+use Rattle.std.specs.Prelude.{◌≡◌, ℕ, zero, suc, ◌+◌, ◌*◌, ◌^◌, false, cond, List, [], ◌∷◌, ◌++◌, Ok, Err, vec_items, fold, Result, Vec, nat_lt}
 use Rattle.std.specs.Result.{result_err, result_unwrap_or}
 use Rattle.std.specs.declared.alloc.AllocError.{AllocError}
 use Rattle.std.specs.declared.alloc.Global.{Global}
@@ -15,8 +15,6 @@ use Rattle.serial.specs.declared.slip.Reply.{Reply}
 use Rattle.ssda.specs.declared.state.State.{State}
 use Rattle.ssda.specs.State.{new_state}
 use Rattle.ssda.specs.Stepped.{stepped, answered, standing_in}
-use Rattle.bench.specs.declared.bench.Bench.{Bench}
-use Rattle.bench.specs.declared.play.Trial.{Trial}
 use Rattle.bench.specs.declared.script.Check.{Check}
 use Rattle.bench.specs.declared.script.Act.{Act}
 use Rattle.bench.specs.declared.script.Act.TheVariants as the
@@ -33,9 +31,6 @@ pub record Seen : Type 0 where
   pub answer : Result Reply Refusal
   pub line : ℕ
 
-abbrev pub seen_at : Bench → Seen
-seen_at b = record { state = b.adapter.state; answer = b.answer; line = b.line }
-
 abbrev pub blank : Reply
 blank = record { value = 0; interrupt = false; sm_dtr = false; underflow = false; slip = quiet_slip }
 
@@ -51,9 +46,9 @@ handed v e = record { state = stepped v.state e; answer = answered v.state e; li
 abbrev pub reply_in : Result Reply Refusal → Reply
 reply_in r = result_unwrap_or r blank
 
--- one more bit on the line; about thirty fit
+-- one more bit on the line; at most 31 bits fit
 abbrev pub with_bit : ℕ → ℕ → ℕ
-with_bit l b = cond (nat_lt l 1073741824) (l * 2 + b) l
+with_bit l b = cond (nat_lt l (2 ^ 30)) (l * 2 + b) l
 
 abbrev pub clocked : Seen → Seen
 clocked v = record {
@@ -86,7 +81,7 @@ field_of x First = x.first
 field_of x Second = x.second
 field_of x Third = x.third
 
--- what comes now, of the kind of the reading that is given
+-- what comes now, of the kind of the reading that is given, at its field or place; the value of that reading is not looked at
 abbrev pub looked : Seen → Reading → Reading
 looked v (reading.Byte b) = reading.Byte (reply_in v.answer).value
 looked v (reading.Interrupt b) = reading.Interrupt (reply_in v.answer).interrupt
@@ -116,16 +111,9 @@ pub record Notes : Type 0 where
   pub seen : Seen
   pub checks : List Check
 
-abbrev pub notes_of : Trial → Notes
-notes_of t = record { seen = seen_at t.bench; checks = vec_items t.checks }
-
 abbrev pub noted : Notes → Line → Notes
 noted n (Do a) = record { seen = did n.seen a; checks = n.checks }
 noted n (Comes r) = record { seen = n.seen; checks = n.checks ++ record { came = looked n.seen r; should = r } ∷ [] }
-
-abbrev pub Follows : Result (Unit {0}) AllocError → Notes → Line → Notes → Type 0
-Follows (Ok x) before line after = after ≡ noted before line
-Follows (Err e) before line after = Unit {0}
 
 -- all that comes of a script on a new adapter
 abbrev pub checked_all : List Line → List Check

@@ -1,12 +1,16 @@
-// The bench: an adapter, the answer to its last event, and the bits that its last clocks showed.
+//! The bench: an adapter, the answer to its last event, and the bits that its last clocks showed.
 ghost use Rattle.std.specs.Prelude.{◌≡◌};
-ghost use Rattle.bench.specs.Bench.{seen_at, new_seen, handed, reply_in, with_bit, clocked, clocks, heard, did, field_of, looked};
+ghost use Rattle.bench.specs.Bench.{new_seen, handed, reply_in, with_bit, clocked, clocks, heard, did, field_of, looked};
 
 use crate::script::{Act, Field, Reading};
 use serial::event::{Cycle, Event, Refusal};
 use serial::queue::Numbers;
 use serial::slip::Reply;
 use ssda::adapter::Adapter;
+use std::marker::Model;
+
+// The bits on the line take one more only below this, so at most 31 bits fit.
+const LINE_LIMIT: u32 = 1 << 30;
 
 #[derive(Drop)]
 pub struct Bench {
@@ -15,10 +19,18 @@ pub struct Bench {
     line: u32,
 }
 
+impl Model for Bench {
+    ghost use Rattle.bench.specs.Bench.{Seen};
+
+    ghost Value = { Seen };
+
+    ghost view = { λ b. record { state = b.adapter; answer = b.answer; line = b.line } };
+}
+
 impl Bench {
-    // A new adapter, and nothing done yet.
+    /// A new adapter, and nothing done yet.
     pub fn new() -> Bench
-        ensures { seen_at result ≡ new_seen }
+        ensures { result ≡ new_seen }
     {
         Bench {
             adapter: Adapter::new(),
@@ -27,9 +39,9 @@ impl Bench {
         }
     }
 
-    // Does one thing to the adapter.
+    /// Does one thing to the adapter.
     pub fn act(&mut self, act: Act)
-        ensures { seen_at self.new ≡ did (seen_at self.old) act }
+        ensures { self.new ≡ did self.old act }
     {
         match act {
             Act::Idle => self.hand(Event::Bus(Cycle::Idle)),
@@ -42,9 +54,9 @@ impl Bench {
         }
     }
 
-    // What comes now, of the kind of the reading that is given.
+    /// What comes now, of the kind of the reading that is given, at its field or place. The value of that reading is not looked at.
     pub fn look(&self, like: Reading) -> Reading
-        ensures { result ≡ looked (seen_at self.now) like }
+        ensures { result ≡ looked self.now like }
     {
         let reply = self.reply();
         match like {
@@ -73,21 +85,21 @@ impl Bench {
 
     // The last reply; a blank one after a refusal.
     fn reply(&self) -> Reply
-        ensures { result ≡ reply_in (seen_at self.now).answer }
+        ensures { result ≡ reply_in self.now.answer }
     {
         self.answer.unwrap_or_default()
     }
 
     // One event.
     fn hand(&mut self, event: Event)
-        ensures { seen_at self.new ≡ handed (seen_at self.old) event }
+        ensures { self.new ≡ handed self.old event }
     {
         self.answer = self.adapter.event(event);
     }
 
     // The eight bits of a character, lowest first.
     fn receive(&mut self, byte: u8)
-        ensures { seen_at self.new ≡ heard (seen_at self.old) byte }
+        ensures { self.new ≡ heard self.old byte }
     {
         for event in &Event::character(byte) {
             self.hand(*event);
@@ -96,7 +108,7 @@ impl Bench {
 
     // Transmit clocks, and the bits that they show.
     fn clocks(&mut self, count: u8)
-        ensures { seen_at self.new ≡ clocks (seen_at self.old) count }
+        ensures { self.new ≡ clocks self.old count }
     {
         self.line = 0;
         for _turn in 0..count {
@@ -105,7 +117,7 @@ impl Bench {
     }
 
     fn clock(&mut self)
-        ensures { seen_at self.new ≡ clocked (seen_at self.old) }
+        ensures { self.new ≡ clocked self.old }
     {
         let reply = self.adapter.transmit_clock();
         self.answer = Ok(reply);
@@ -113,11 +125,11 @@ impl Bench {
     }
 }
 
-// The bits so far with one more; about thirty fit.
+// The bits so far with one more, or the bits so far if no more fit.
 fn with_bit(line: u32, bit: u8) -> u32
     ensures { result ≡ with_bit line bit }
 {
-    if line < 1_073_741_824 {
+    if line < LINE_LIMIT {
         line * 2 + u32::from(bit)
     } else {
         line

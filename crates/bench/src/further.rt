@@ -1,4 +1,4 @@
-// Further examples, each as in the table of specs/.
+//! Further examples, each as in the table of specs/.
 ghost use Rattle.std.specs.Prelude.{◌≡◌, map};
 ghost use Rattle.bench.specs.Table.{entry_of, further, FurtherHold};
 
@@ -1369,7 +1369,7 @@ static EXAMPLES: [Example; 52] = [
     },
 ];
 
-// Further examples. All that must come by them does come.
+/// Further examples. All that must come by them does come.
 pub fn examples() -> &'static [Example; 52]
     ensures table { map entry_of result.now ≡ further }
     ensures hold { FurtherHold }

@@ -1,4 +1,4 @@
-// Runs the bench examples on the adapter's calls, and prints what came and what should come.
+//! Runs the bench examples on the adapter's calls, and prints what came and what should come.
 #![tactic(auto)]
 
 ghost use Rattle.std.specs.Prelude.{◌≤◌, length, IfOk};

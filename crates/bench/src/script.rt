@@ -1,11 +1,11 @@
-// A script for the bench: what is done to an adapter, and what must come.
+//! A script for the bench: what is done to an adapter, and what must come.
 ghost use Rattle.std.specs.Prelude.{◌↔◌, IsTrue};
 
 use serial::event::Refusal;
 use serial::queue::Place;
 use serial::slip::{QueueCode, ReceiveCode, ShiftCode};
 
-// What is done. A character is eight received bits, lowest first.
+/// What is done. A character is eight received bits, lowest first.
 #[derive(Clone, Copy, Debug, PartialEq, Eq)]
 pub enum Act {
     Idle,
@@ -17,7 +17,7 @@ pub enum Act {
     Pin { pin: u8, level: u8 },
 }
 
-// One of the three fields of numbers on a slip.
+/// One of the three fields of numbers on a slip.
 #[derive(Clone, Copy, Debug, PartialEq, Eq)]
 pub enum Field {
     First,
@@ -25,8 +25,8 @@ pub enum Field {
     Third,
 }
 
-// What is read off: a part of the answer to the last event, the bits that the last clocks showed, or what the question tells, which may
-// be nobody.
+/// What is read off: a part of the answer to the last event, the bits that the last clocks showed, or what the question tells, which may
+/// be nobody.
 #[derive(Clone, Copy, Debug, PartialEq, Eq)]
 pub enum Reading {
     Byte(u8),
@@ -45,21 +45,21 @@ pub enum Reading {
     Shifting(Option<u32>),
 }
 
-// A line of a script, which starts on a new adapter.
+/// A line of a script, which starts on a new adapter.
 #[derive(Clone, Copy, Debug, PartialEq, Eq)]
 pub enum Line {
     Do(Act),
     Comes(Reading),
 }
 
-// An example: what it shows, in words, and its script.
+/// An example: what it shows, in words, and its script.
 #[derive(Clone, Copy, Debug, PartialEq, Eq)]
 pub struct Example {
     pub title: &'static str,
     pub script: &'static [Line],
 }
 
-// What came, beside what should come.
+/// What came, beside what should come.
 #[derive(Clone, Copy, Debug, PartialEq, Eq)]
 pub struct Check {
     pub came: Reading,
@@ -69,7 +69,7 @@ pub struct Check {
 impl Check {
     ghost use Rattle.bench.specs.Bench.{Agrees};
 
-    // Whether it came as it should.
+    /// Whether it came as it should.
     pub fn agrees(self) -> bool
         ensures { IsTrue result ↔ Agrees self }
     {

@@ -1,10 +1,10 @@
-// A script and what came of it, in words.
+//! A script and what came of it, in words.
 use crate::script::{Act, Check, Example, Field, Line, Reading};
 use serial::case::Case;
 use serial::event::Refusal;
 use std::fmt;
 
-// An example that was played: one line.
+/// An example that was played: one line.
 #[derive(Clone, Copy, Debug)]
 pub struct Report<'a> {
     pub example: Example,

@@ -1,4 +1,4 @@
-// The worked examples of the rules, each as in the table of specs/.
+//! The worked examples of the rules, each as in the table of specs/.
 ghost use Rattle.std.specs.Prelude.{◌≡◌, map};
 ghost use Rattle.bench.specs.Table.{entry_of, worked, WorkedHold};
 
@@ -273,7 +273,7 @@ static EXAMPLES: [Example; 14] = [
     },
 ];
 
-// The worked examples of the rules. All that must come by them does come.
+/// The worked examples of the rules. All that must come by them does come.
 pub fn examples() -> &'static [Example; 14]
     ensures table { map entry_of result.now ≡ worked }
     ensures hold { WorkedHold }

@@ -1,5 +1,5 @@
 -- What is on the desk after events were handed over. Assumes nothing.
-use Rattle.std.specs.Prelude.{◌≡◌, ℕ, ◌≤◌, Bool, cond, ◌||◌, List, [], ◌∷◌, ◌++◌, length, take, Ok, Err, vec_items, fold, Result, ◌==◌, slice_index_or}
+use Rattle.std.specs.Prelude.{◌≡◌, ℕ, ◌≤◌, Bool, cond, ◌||◌, List, [], ◌∷◌, ◌++◌, length, take, Ok, Err, fold, Result, ◌==◌, slice_index_or}
 use Rattle.serial.specs.declared.account.Account.{Account}
 use Rattle.serial.specs.declared.event.Event.{Event}
 use Rattle.serial.specs.declared.event.Refusal.{Refusal}
@@ -9,7 +9,6 @@ use Rattle.serial.specs.declared.slip.Reply.{Reply}
 use Rattle.serial.specs.declared.slip.Slip.{Slip}
 use Rattle.ssda.specs.declared.state.State.{State}
 use Rattle.ssda.specs.Stepped.{stepped, answered}
-use Rattle.counter.specs.declared.desk.Desk.{Desk}
 use Rattle.counter.specs.declared.desk.Fault.{Fault}
 use Rattle.counter.specs.declared.desk.Fault.TheVariants.{Declined, NoMemory}
 
@@ -17,9 +16,6 @@ use Rattle.counter.specs.declared.desk.Fault.TheVariants.{Declined, NoMemory}
 pub record Kept : Type 0 where
   pub state : State
   pub slips : List Slip
-
-abbrev pub kept_on : Desk → Kept
-kept_on d = record { state = d.adapter.state; slips = vec_items d.slips }
 
 abbrev slip_in : Result Reply Refusal → List Slip
 slip_in (Ok r) = r.slip ∷ []

@@ -1,19 +1,15 @@
 -- What a step of the story hands to the adapter. Assumes nothing.
-use Rattle.std.specs.Prelude.{ℕ, List, [], ◌∷◌, ◌++◌}
+use Rattle.std.specs.Prelude.{ℕ, List, [], take}
 use Rattle.serial.specs.declared.event.Cycle.TheVariants.{Idle, Read, Write}
 use Rattle.serial.specs.declared.event.Event.{Event}
 use Rattle.serial.specs.declared.event.Event.TheVariants.{Bus}
-use Rattle.serial.specs.Events.{bit_event}
+use Rattle.serial.specs.Events.{bit_event, character_events}
 use Rattle.counter.specs.declared.story.Step.{Step}
 use Rattle.counter.specs.declared.story.Step.TheVariants as the
 
 -- a character is its eight bits, lowest first; the first seven come before the last event of the step
 abbrev pub first_seven : ℕ → List Event
-first_seven b =
-    bit_event b 0 ∷ bit_event b 1 ∷ bit_event b 2 ∷ bit_event b 3 ∷ bit_event b 4 ∷ bit_event b 5 ∷ bit_event b 6 ∷ []
-
-abbrev pub all_eight : ℕ → List Event
-all_eight b = first_seven b ++ bit_event b 7 ∷ []
+first_seven b = take 7 (character_events b)
 
 abbrev pub events_before : Step → List Event
 events_before (the.Write rs b) = []

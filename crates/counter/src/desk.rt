@@ -1,11 +1,11 @@
-// The desk: an adapter, and the slips of all events that it was handed.
-ghost use Rattle.std.specs.Prelude.{◌≡◌, ◌<◌, []};
+//! The desk: an adapter, and the slips of all events that it was handed.
+ghost use Rattle.std.specs.Prelude.{◌≡◌, []};
 ghost use Rattle.serial.specs.Accounts.{accounted};
 ghost use Rattle.ssda.specs.State.{new_state};
 ghost use Rattle.ssda.specs.Stepped.{standing_in};
 ghost use Rattle.counter.specs.declared.desk.Fault.TheVariants.{Declined, NoMemory};
 ghost use Rattle.counter.specs.Events.{events_before, last_event};
-ghost use Rattle.counter.specs.Desk.{kept_on, Handed, HandedAll, or_declined, told_by, fate_in};
+ghost use Rattle.counter.specs.Desk.{Handed, HandedAll, or_declined, told_by, fate_in};
 
 use crate::story::Step;
 use serial::account::Account;
@@ -14,9 +14,10 @@ use serial::event::{Cycle, Event, Refusal};
 use serial::slip::{ReceiveCode, Reply, Slip, Standing};
 use ssda::adapter::Adapter;
 use std::alloc::{AllocFailed, Global};
+use std::marker::Model;
 use thiserror::Error;
 
-// Why the story stops.
+/// Why the story stops.
 #[derive(Clone, Copy, Debug, PartialEq, Eq, Error)]
 pub enum Fault {
     #[error("The adapter declined an event, refusal {}.", .0.number())]
@@ -47,10 +48,19 @@ pub struct Desk {
     slips: Vec<Slip>,
 }
 
+impl Model for Desk {
+    ghost use Rattle.std.specs.Prelude.{vec_items};
+    ghost use Rattle.counter.specs.Desk.{Kept};
+
+    ghost Value = { Kept };
+
+    ghost view = { λ d. record { state = d.adapter; slips = vec_items d.slips } };
+}
+
 impl Desk {
-    // A new adapter, and no slips.
+    /// A new adapter, and no slips.
     pub fn new(heap: Global) -> Desk
-        ensures { kept_on result ≡ record { state = new_state; slips = [] } }
+        ensures { result ≡ record { state = new_state; slips = [] } }
     {
         Desk {
             adapter: Adapter::new(),
@@ -58,46 +68,46 @@ impl Desk {
         }
     }
 
-    // One step of the story; the reply is that to its last event.
+    /// One step of the story; the reply is that to its last event.
     pub fn play(&mut self, step: Step) -> Result<Reply, Fault>
-        ensures { HandedAll (kept_on self.old) (events_before step) (last_event step) result (kept_on self.new) }
+        ensures { HandedAll self.old (events_before step) (last_event step) result self.new }
     {
         match step {
-            Step::Write { rs, byte } => self.hand_all(&[], Event::Bus(Cycle::Write { rs, byte })),
+            Step::Write { rs, byte } => self.hand(Event::Bus(Cycle::Write { rs, byte })),
             Step::Character(byte) => {
                 let bits = Event::character(byte);
                 self.hand_all(&bits[..7], bits[7])
             }
-            Step::Idle => self.hand_all(&[], Event::Bus(Cycle::Idle)),
-            Step::LoggerReadsStatus => self.hand_all(&[], Event::Bus(Cycle::Read { rs: 0 })),
-            Step::DoserReadsData => self.hand_all(&[], Event::Bus(Cycle::Read { rs: 1 })),
+            Step::Idle => self.hand(Event::Bus(Cycle::Idle)),
+            Step::LoggerReadsStatus => self.hand(Event::Bus(Cycle::Read { rs: 0 })),
+            Step::DoserReadsData => self.hand(Event::Bus(Cycle::Read { rs: 1 })),
         }
     }
 
-    // Which characters wait.
+    /// Which characters wait.
     pub fn standing(&self) -> Standing
-        ensures { result ≡ standing_in (kept_on self.now).state }
+        ensures { result ≡ standing_in self.now.state }
     {
         self.adapter.question()
     }
 
-    // What became of all characters so far.
+    /// What became of all characters so far.
     pub fn account(&self) -> Result<Account, Fault>
-        ensures { result ≡ or_declined (accounted (kept_on self.now).slips) }
+        ensures { result ≡ or_declined (accounted self.now.slips) }
     {
         Ok(Account::of(self.slips.as_slice())?)
     }
 
-    // What became of one character: nothing yet if no slip names it.
+    /// What became of one character: nothing yet if no slip names it.
     pub fn fate(&self, number: u32) -> ReceiveCode
-        ensures { result ≡ fate_in number (kept_on self.now).slips }
+        ensures { result ≡ fate_in number self.now.slips }
     {
         fate_in(self.slips.as_slice(), number)
     }
 
     // Some events in order, and one more; the reply is that to the last one.
     fn hand_all(&mut self, events: &[Event], last: Event) -> Result<Reply, Fault>
-        ensures { HandedAll (kept_on self.old) events.now last result (kept_on self.new) }
+        ensures { HandedAll self.old events.now last result self.new }
     {
         for event in events {
             self.hand(*event)?;
@@ -107,7 +117,7 @@ impl Desk {
 
     // One event, whose slip is kept.
     fn hand(&mut self, event: Event) -> Result<Reply, Fault>
-        ensures { Handed (kept_on self.old) event result (kept_on self.new) }
+        ensures { Handed self.old event result self.new }
     {
         let reply = self.adapter.event(event)?;
         self.slips.push(reply.slip)?;

@@ -1,4 +1,4 @@
-// Plays the story of one order at the paint counter, and tells the fate of each character.
+//! Plays the story of one order at the paint counter, and tells the fate of each character.
 #![tactic(auto)]
 
 mod desk;

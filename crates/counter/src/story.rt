@@ -1,7 +1,7 @@
-// The story: a screen, a logger and a doser share one adapter, while an order comes over the line.
+//! The story: a screen, a logger and a doser share one adapter, while an order comes over the line.
 ghost use Rattle.counter.specs.Story.{Goes};
 
-// What happens next. The bus is idle for the adapter while the screen redraws.
+/// What happens next. The bus is idle for the adapter while the screen redraws.
 #[derive(Clone, Copy, Debug, PartialEq, Eq)]
 pub enum Step {
     Write { rs: u8, byte: u8 },
@@ -11,11 +11,11 @@ pub enum Step {
     DoserReadsData,
 }
 
-// The character that closes the valve.
+/// The character that closes the valve.
 pub const CLOSING: u8 = b'C';
 
-// The adapter is set up to receive: external sync, 8 bits bare, 1-byte mode, both sides released. 'O' and 'P' are read in time. Then redraws
-// hold the doser up and the queue fills: '7' is lost, the logger sees overrun, and before the doser reads, the closing character is lost too.
+/// The adapter is set up to receive: external sync, 8 bits bare, 1-byte mode, both sides released. 'O' and 'P' are read in time. Then redraws
+/// hold the doser up and the queue fills: '7' is lost, the logger sees overrun, and before the doser reads, the closing character is lost too.
 pub fn one_order() -> [Step; 28]
     ensures { Goes result }
 {

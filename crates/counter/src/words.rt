@@ -1,4 +1,4 @@
-// The story in words.
+//! The story in words.
 ghost use Rattle.std.specs.Prelude.{◌≡◌};
 ghost use Rattle.counter.specs.Words.{word_of, overrun_in};
 
@@ -9,7 +9,7 @@ use serial::queue::Place;
 use serial::slip::{ReceiveCode, Reply, Slip, Standing};
 use std::fmt;
 
-// What a code says of a character.
+/// What a code says of a character.
 pub fn word_of(code: ReceiveCode) -> &'static str
     ensures { result.now ≡ word_of code }
 {
@@ -23,15 +23,15 @@ pub fn word_of(code: ReceiveCode) -> &'static str
     }
 }
 
-// Whether a Status byte shows overrun, its bit 5.
+/// Whether a Status byte shows overrun, its bit 5.
 pub fn shows_overrun(status: u8) -> bool
     ensures { result ≡ overrun_in status }
 {
     (status >> 5) % 2 == 1
 }
 
-// A step that was played: the reply to its last event, and which characters wait after it.
-#[derive(Clone, Copy)]
+/// A step that was played: the reply to its last event, and which characters wait after it.
+#[derive(Clone, Copy, Debug)]
 pub struct Played {
     pub step: Step,
     pub reply: Reply,
@@ -70,7 +70,7 @@ impl fmt::Display for Played {
 }
 
 // The number of the character in place 1, which came last.
-#[derive(Clone, Copy)]
+#[derive(Clone, Copy, Debug)]
 struct Newest(Option<u32>);
 
 impl fmt::Display for Newest {
@@ -83,7 +83,7 @@ impl fmt::Display for Newest {
 }
 
 // What a slip tells of received characters; one that is delivered comes with the byte that was read.
-#[derive(Clone, Copy)]
+#[derive(Clone, Copy, Debug)]
 struct Fates {
     slip: Slip,
     value: u8,
@@ -107,8 +107,8 @@ impl fmt::Display for Fates {
     }
 }
 
-// Which characters still wait, oldest first.
-#[derive(Clone, Copy)]
+/// Which characters still wait, oldest first.
+#[derive(Clone, Copy, Debug)]
 pub struct Waiting(pub Standing);
 
 impl fmt::Display for Waiting {
@@ -129,8 +129,8 @@ impl fmt::Display for Waiting {
     }
 }
 
-// The account of both directions, in two lines.
-#[derive(Clone, Copy)]
+/// The account of both directions, in two lines.
+#[derive(Clone, Copy, Debug)]
 pub struct Totals(pub Account);
 
 impl fmt::Display for Totals {
@@ -149,8 +149,8 @@ impl fmt::Display for Totals {
     }
 }
 
-// What became of the closing character, and so of the valve.
-#[derive(Clone, Copy)]
+/// What became of the closing character, and so of the valve.
+#[derive(Clone, Copy, Debug)]
 pub struct Closing {
     pub number: u32,
     pub fate: ReceiveCode,

@@ -1,11 +1,12 @@
 -- The act of an event on a queue, by four tests, and the ways to leave a queue. Assumes nothing.
 use Rattle.std.proofs.Common.{◌≡◌, ℕ, Bool, true, false, ◌↔◌, Some, None, Option, refl, ap}
+use Rattle.std.proofs.lemmas.Bool.{false≢true}
+use Rattle.std.proofs.lemmas.Option.{same_Some, none-some}
 use Rattle.serial.specs.declared.life.Way.{Way}
 use Rattle.serial.specs.declared.life.Way.TheVariants.{Displaced, Taken, Emptied}
 use Rattle.serial.specs.Life.{Acts}
 use Rattle.serial.specs.Moves.{Act, enter, rise, take, empty, nothing}
 use Rattle.serial.proofs.Places.{Here}
-use Rattle.history.proofs.Small.{false_true, none_some, some_is}
 
 -- where nothing is emptied, risen or taken, a number may enter
 abbrev pub act_of : Bool → Bool → Bool → Option ℕ → Act
@@ -41,25 +42,25 @@ module _ (A : Acts) (k : ℕ) where
     entering = λ n. (λ x. t.enter_or_rise n x e, λ x. absurd x);
     rising = (λ x. tt, λ x. e);
     taking = (λ x. t.take_or_rise x e, λ x. absurd x);
-    emptying = (λ x. false_true (t.empties.0 x), λ x. absurd x);
+    emptying = (λ x. false≢true (t.empties.0 x), λ x. absurd x);
   }
   acts false false true o t = let e = t.takes.1 refl in record {
     entering = λ n. (λ x. t.enter_or_take n x e, λ x. absurd x);
-    rising = (λ x. false_true (t.rises.0 x), λ x. absurd x);
+    rising = (λ x. false≢true (t.rises.0 x), λ x. absurd x);
     taking = (λ x. tt, λ x. e);
-    emptying = (λ x. false_true (t.empties.0 x), λ x. absurd x);
+    emptying = (λ x. false≢true (t.empties.0 x), λ x. absurd x);
   }
   acts false false false None t = record {
-    entering = λ n. (λ x. none_some n ((t.enters n).0 x), λ x. absurd x);
-    rising = (λ x. false_true (t.rises.0 x), λ x. absurd x);
-    taking = (λ x. false_true (t.takes.0 x), λ x. absurd x);
-    emptying = (λ x. false_true (t.empties.0 x), λ x. absurd x);
+    entering = λ n. (λ x. none-some n ((t.enters n).0 x), λ x. absurd x);
+    rising = (λ x. false≢true (t.rises.0 x), λ x. absurd x);
+    taking = (λ x. false≢true (t.takes.0 x), λ x. absurd x);
+    emptying = (λ x. false≢true (t.empties.0 x), λ x. absurd x);
   }
   acts false false false (Some m) t = record {
-    entering = λ n. (λ x. some_is ((t.enters n).0 x), λ x. (t.enters n).1 (ap Some x));
-    rising = (λ x. false_true (t.rises.0 x), λ x. absurd x);
-    taking = (λ x. false_true (t.takes.0 x), λ x. absurd x);
-    emptying = (λ x. false_true (t.empties.0 x), λ x. absurd x);
+    entering = λ n. (λ x. same_Some m n ((t.enters n).0 x), λ x. (t.enters n).1 (ap Some x));
+    rising = (λ x. false≢true (t.rises.0 x), λ x. absurd x);
+    taking = (λ x. false≢true (t.takes.0 x), λ x. absurd x);
+    emptying = (λ x. false≢true (t.empties.0 x), λ x. absurd x);
   }
 
 -- the ways to leave a queue, by number, which tells them apart

@@ -1,11 +1,10 @@
 -- An event that writes nothing and sets no pin leaves every setting, and sends nothing to transmit data. Assumes nothing.
-use Rattle.std.proofs.Common.{◌≡◌, ℕ, zero, suc, ◌/◌, Bool, true, false, cond, not, ◌&&◌, ◌||◌, Some, None, Option, ◌==◌, sym, refl, ap, ◌∙◌}
-use mathlib.Core.Bool.{beq}
+use Rattle.std.proofs.Common.{◌≡◌, ℕ, zero, suc, Bool, true, false, cond, Some, None, Option, sym, refl, ap, ◌∙◌, arith}
+use Rattle.std.proofs.lemmas.Option.{none-some}
 use Rattle.history.specs.Events.{bit_at, writes}
 use Rattle.history.specs.Settings.{History, or_else, held_by, bit_of, reset, cts, dcd, c1, to_c1, to_c3, to_data, addressed, rx_reset, tx_reset, external, clear_sync, off, held}
 use Rattle.history.specs.Lines.{restarts, Writes}
 use Rattle.history.proofs.Apart.{Calm}
-use Rattle.history.proofs.Small.{none_some, cond_same, no_change}
 
 -- a bit that RESET holds
 
@@ -17,11 +16,7 @@ module _ (high : ℕ → Bool) (v : Bool) (given : ℕ → Option Bool) where
 
   -- where RESET keeps its level and nothing is written it stays
   same_held : (k : ℕ) → given k ≡ None → high (suc k) ≡ high k → held_by high v given (suc k) ≡ held_by high v given k
-  same_held k g h = go (high k) refl
-    where
-      go : (b : Bool) → high k ≡ b → held_by high v given (suc k) ≡ held_by high v given k
-      go true e = ap (λ b. cond b (or_else (given k) (held_by high v given k)) v) (h ∙ e) ∙ ap (λ o. or_else o (held_by high v given k)) g
-      go false e = low (suc k) (h ∙ e) ∙ sym (low k e)
+  same_held k g h = grind (arith, low k, low (suc k))
 
 module _ (E : History) (k : ℕ) (c : Calm (E k)) where
   -- the pins and the registers
@@ -38,7 +33,7 @@ module _ (E : History) (k : ℕ) (c : Calm (E k)) where
   clear_same = ap (λ o. bit_at 3 (or_else o (c1 E k))) (c.unwritten 0)
 
   addressed_none : (a : ℕ) → addressed a E k ≡ None
-  addressed_none a = ap (λ o. cond (c1 E k / 64 == a) o None) (c.unwritten 1) ∙ cond_same _ None
+  addressed_none a = grind (arith, c.unwritten 1)
 
   rx_same : rx_reset E (suc k) ≡ rx_reset E k
   rx_same = same_held (reset E) true (λ i. bit_of 0 (to_c1 E i)) k (ap (bit_of 0) (c.unwritten 0)) reset_same
@@ -51,33 +46,23 @@ module _ (E : History) (k : ℕ) (c : Calm (E k)) where
 
   -- so the receiver stays on or off, and does not restart, and the transmitter stays held or free
   off_same : off E (suc k) ≡ off E k
-  off_same =
-      ap (λ b. b || dcd E (suc k) || clear_sync E (suc k)) rx_same
-      ∙ ap (λ b. rx_reset E k || b || clear_sync E (suc k)) dcd_same
-      ∙ ap (λ b. rx_reset E k || dcd E k || b) clear_same
+  off_same = simp (rx_same, dcd_same, clear_same)
 
   pub held_same : held E (suc k) ≡ held E k
-  held_same = ap (λ b. b || cts E (suc k)) tx_same ∙ ap (λ b. tx_reset E k || b) cts_same
+  held_same = simp (tx_same, cts_same)
 
   pub no_restart : restarts E k ≡ false
-  no_restart =
-      ap (λ o. not o && (off E k || not (beq (external E k) (external E (suc k))))) off_same
-      ∙ ap (λ x. not (off E k) && (off E k || not (beq (external E k) x))) external_same
-      ∙ no_change (off E k) (external E k)
+  no_restart = grind (arith, off_same, external_same)
 
   -- nothing goes to transmit data
   pub calm_write : (n b : ℕ) → Writes E k n b → ⊥
-  calm_write n b w = none_some b (sym (addressed_none 3) ∙ w.byte)
+  calm_write n b w = none-some b (sym (addressed_none 3) ∙ w.byte)
 
 -- what goes to transmit data is written with RS 1
 module _ (E : History) (k : ℕ) where
   pub data_written : (b : ℕ) → to_data E k ≡ Some b → writes 1 (E k) ≡ Some b
-  data_written b h = go (c1 E k / 64 == 3) h
-    where
-      go : (t : Bool) → cond t (writes 1 (E k)) None ≡ Some b → writes 1 (E k) ≡ Some b
-      go true e = e
-      go false e = none_some b e
+  data_written b h = grind arith
 
   -- so where nothing is written with RS 1, nothing goes there
   pub not_to_data : {A : Type 0} → writes 1 (E k) ≡ None → (b : ℕ) → to_data E k ≡ Some b → A
-  not_to_data h b e = none_some b (sym h ∙ data_written b e)
+  not_to_data h b e = absurd (none-some b (sym h ∙ data_written b e))

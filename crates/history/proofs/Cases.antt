@@ -1,5 +1,6 @@
 -- What an event can be to an adapter, case by case: the state after it, and what is told or why it is declined. Assumes nothing.
-use Rattle.std.proofs.Common.{◌≡◌, ℕ, zero, suc, ◌<◌, ◌≤◌, Bool, true, false, cond, not, eqb, leb, Some, Ok, Err, Result, refl, arith}
+use Rattle.std.proofs.Common.{◌≡◌, ℕ, ◌<◌, ◌≤◌, Bool, true, false, cond, not, eqb, leb, Some, Ok, Err, Result, refl, arith}
+use Rattle.std.proofs.lemmas.Bool.Decides.{nat_tests}
 use mathlib.Core.Bool.{beq}
 use Rattle.std.proofs.lemmas.Bool.{leb-true, leb-false, le-leb, lt-leb}
 use Rattle.serial.specs.Slips.{quiet_slip}
@@ -63,20 +64,14 @@ outcome s e = outcome_by (checked_by s.front e) s e
 -- numbers by the few that count
 module _ (P : ℕ → Type 0) (zero_case : P 0) (one_case : P 1) where
   two_cases : ((n : ℕ) → 1 < n → P n) → (n : ℕ) → P n
-  two_cases f zero = zero_case
-  two_cases f (suc zero) = one_case
-  two_cases f (suc (suc n)) = f (suc (suc n)) (omega arith)
+  two_cases f n = grind arith
 
   three_cases : P 2 → ((n : ℕ) → 2 < n → P n) → (n : ℕ) → P n
-  three_cases t f zero = zero_case
-  three_cases t f (suc zero) = one_case
-  three_cases t f (suc (suc zero)) = t
-  three_cases t f (suc (suc (suc n))) = f (suc (suc (suc n))) (omega arith)
+  three_cases t f n = grind arith
 
 -- a level on a pin that is high now or low: it falls, rises or stays
 levels : (To : ℕ → Bool → Type 0) (now : Bool) → (now ≡ true → To 0 true) → (now ≡ false → To 1 true) → ((l : ℕ) → l ≤ 1 → eqb l 1 ≡ now → To l false) → To 0 (not (beq false now)) × To 1 (not (beq true now))
-levels To true falls rises same = (falls refl, same 1 (omega arith) refl)
-levels To false falls rises same = (same 0 (omega arith) refl, rises refl)
+levels To now falls rises same = grind arith
 
 module _ (s : State) (P : Event → State → Outcome → Type 0) (c : Cases s P) where
   abbrev Goal : Event → Type 0
@@ -102,8 +97,7 @@ module _ (s : State) (P : Event → State → Outcome → Type 0) (c : Cases s P
 
   -- a received bit, by whether there is a number left
   bit_of_lem : (b : ℕ) → b ≤ 1 → (t : Bool) → leb 16000000 s.front.receiver.framed ≡ t → Goal (ReceivedBit b)
-  bit_of_lem b h true e = simp (le-leb b 1 h, e) (c.framed_full b h (leb-true _ _ e))
-  bit_of_lem b h false e = simp (le-leb b 1 h, e) (c.bit b h (leb-false _ _ e))
+  bit_of_lem b h t e = grind (arith, nat_tests, c.framed_full b, c.bit b)
 
   bit_else : (b : ℕ) → 1 < b → Goal (ReceivedBit b)
   bit_else b h = let a = lt-leb b 1 h in simp a (c.outside (ReceivedBit b) NotABit (simp a))

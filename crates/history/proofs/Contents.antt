@@ -1,5 +1,6 @@
 -- What holds of each thing in a queue, which act is which, who is held where, and what is told of one number. Assumes nothing.
-use Rattle.std.proofs.Common.{◌≡◌, ℕ, ◌≤◌, Bool, [], ◌∷◌, Some, None, Option, refl, ap, inl, inr, arith}
+use Rattle.std.proofs.Common.{◌≡◌, ℕ, ◌≤◌, Bool, [], ◌∷◌, Some, None, Option, refl, arith}
+use Rattle.std.proofs.lemmas.Bool.Decides.{nat_tests}
 use Rattle.serial.specs.declared.queue.Queue.{Queue}
 use Rattle.serial.specs.declared.slip.QueueCode.TheVariants as qu
 use Rattle.serial.specs.declared.slip.ReceiveCode.TheVariants as rx
@@ -8,7 +9,6 @@ use Rattle.serial.specs.Moves.{Act, enter, rise, take, empty, nothing, tells}
 use Rattle.serial.specs.Queue.{empty_queue, entered, output_taken, moved_up, risen, fields}
 use Rattle.serial.proofs.Places.{IsEnter, IsRise, IsTake, IsEmpty, In, Held}
 use Rattle.ssda.specs.Step.{tell_shift}
-use Rattle.history.proofs.Small.{not_zero}
 
 module _ {T : Type 0} (P : T → Type 0) where
   -- P holds of what stands in a place, if anything does
@@ -33,42 +33,23 @@ module _ {T : Type 0} (P : T → Type 0) where
   each_taken q a = record { first = a.first; second = a.second; third = tt }
 
   moved : (a b c : Option T) → Holds a → Holds b → Holds c → Each (moved_up a b c)
-  moved a None None x y z = record { first = tt; second = tt; third = x }
-  moved a (Some b) None x y z = record { first = tt; second = x; third = y }
-  moved a None (Some c) x y z = record { first = tt; second = x; third = z }
-  moved a (Some b) (Some c) x y z = record { first = x; second = y; third = z }
+  moved a b c x y z = grind arith
 
   pub each_risen : (q : Queue T) → Each q → Each (risen q)
   each_risen q a = moved q.one q.two q.three a.first a.second a.third
 
 -- which act it is, by what it does
 pub is_enter : (x : Act) (n : ℕ) → IsEnter x n → x ≡ enter n
-is_enter (enter m) n h = ap enter h
-is_enter rise n h = absurd h
-is_enter take n h = absurd h
-is_enter empty n h = absurd h
-is_enter nothing n h = absurd h
+is_enter x n h = grind arith
 
 pub is_rise : (x : Act) → IsRise x → x ≡ rise
-is_rise (enter m) h = absurd h
-is_rise rise h = refl
-is_rise take h = absurd h
-is_rise empty h = absurd h
-is_rise nothing h = absurd h
+is_rise x h = grind arith
 
 pub is_take : (x : Act) → IsTake x → x ≡ take
-is_take (enter m) h = absurd h
-is_take rise h = absurd h
-is_take take h = refl
-is_take empty h = absurd h
-is_take nothing h = absurd h
+is_take x h = grind arith
 
 pub is_empty : (x : Act) → IsEmpty x → x ≡ empty
-is_empty (enter m) h = absurd h
-is_empty rise h = absurd h
-is_empty take h = absurd h
-is_empty empty h = refl
-is_empty nothing h = absurd h
+is_empty x h = grind arith
 
 pub is_nothing : (x : Act) → ((n : ℕ) → IsEnter x n → ⊥) → (IsRise x → ⊥) → (IsTake x → ⊥) → (IsEmpty x → ⊥) → x ≡ nothing
 is_nothing (enter m) a b c d = absurd (a m refl)
@@ -79,20 +60,15 @@ is_nothing nothing a b c d = refl
 
 -- who is held in place 1, and in place 3
 pub held_first : (q : Queue ℕ) (n : ℕ) → Held q n 1 → In q.one n
-held_first q n (inl h) = h.1
-held_first q n (inr (inl h)) = absurd (omega (arith, h.0))
-held_first q n (inr (inr h)) = absurd (omega (arith, h.0))
+held_first q n h = grind arith
 
 pub held_third : (q : Queue ℕ) (n : ℕ) → Held q n 3 → In q.three n
-held_third q n (inl h) = absurd (omega (arith, h.0))
-held_third q n (inr (inl h)) = absurd (omega (arith, h.0))
-held_third q n (inr (inr h)) = h.1
+held_third q n h = grind arith
 
 -- where one number is told, the way is told
 pub way_told : (n : ℕ) (w : Way) → 1 ≤ n → (tells w (fields (n ∷ []))).way ≡ Some w
-way_told n w h = simp (not_zero n h)
+way_told n w h = grind (arith, nat_tests)
 
 -- what is told of the byte that is being shifted is nothing of either queue
 pub shift_alone : (m : Option ℕ) (last : Bool) → ((tell_shift m last).receive ≡ rx.Nothing) × ((tell_shift m last).received ≡ fields []) × ((tell_shift m last).queue ≡ qu.Nothing) × ((tell_shift m last).queued ≡ fields [])
-shift_alone None last = (refl, refl, refl, refl)
-shift_alone (Some n) last = (refl, refl, refl, refl)
+shift_alone m last = grind arith

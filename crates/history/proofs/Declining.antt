@@ -1,5 +1,7 @@
 -- A declined event does nothing to anyone, and it is declined for one reason. Assumes nothing.
 use Rattle.std.proofs.Common.{◌≡◌, ℕ, true, ◌⊎◌, Some, sym, refl, ap, ◌∙◌, inl, inr, arith}
+use Rattle.std.proofs.lemmas.Bool.{false≢true}
+use Rattle.std.proofs.lemmas.Option.{none-some}
 use Rattle.serial.specs.declared.event.Refusal.{Refusal}
 use Rattle.history.specs.Events.{received, clocks}
 use Rattle.history.specs.Settings.{History, to_data, ReadsData, ResetsReceiver, ResetsTransmitter, Cuts}
@@ -11,7 +13,6 @@ use Rattle.history.proofs.OnePhase.{receiver_is}
 use Rattle.history.proofs.ReceivedFates.{nobody_met}
 use Rattle.history.proofs.Receiving.{count, numbered, unframed}
 use Rattle.history.proofs.Resets.{unset_rx, unset_tx, no_cut, no_rise}
-use Rattle.history.proofs.Small.{none_some, false_true}
 use Rattle.history.proofs.WrittenFates.{nobody_dropped, nothing_done}
 
 module _ (E : History) (k : ℕ) where
@@ -53,7 +54,7 @@ module _ (E : History) (k : ℕ) where
   module _ (q : Quiet) where
     -- it reads nothing, resets nothing, and is no clock and no cut
     no_read : ReadsData E k → ⊥
-    no_read h = false_true (sym (q.mild.unread 1 (omega arith)) ∙ h)
+    no_read h = false≢true (sym (q.mild.unread 1 (omega arith)) ∙ h)
 
     no_rx : ResetsReceiver E k → ⊥
     no_rx = unset_rx E k q.mild.no_c1 (q.mild.unset 0 (omega arith))
@@ -62,7 +63,7 @@ module _ (E : History) (k : ℕ) where
     no_tx = unset_tx E k q.mild.no_c1 (q.mild.unset 0 (omega arith))
 
     untouched : (clocks (E k) ≡ true) ⊎ Cuts E k → ⊥
-    untouched (inl h) = false_true (sym q.mild.no_clock ∙ h)
+    untouched (inl h) = false≢true (sym q.mild.no_clock ∙ h)
     untouched (inr h) = no_cut E k no_tx (no_rise E k (q.mild.unset 1 (omega arith))) h
 
   -- a declined event ends no character,
@@ -79,7 +80,7 @@ module _ (E : History) (k : ℕ) where
 
   -- an event that is nothing is no bit, and no byte
   inert_bit : (b : ℕ) → Inert (E k) → received (E k) ≡ Some b → ⊥
-  inert_bit b i h = none_some b (sym i.no_bit ∙ h)
+  inert_bit b i h = none-some b (sym i.no_bit ∙ h)
 
   inert_write : (b : ℕ) → Inert (E k) → to_data E k ≡ Some b → ⊥
   inert_write b i h = not_to_data E k i.no_write b h

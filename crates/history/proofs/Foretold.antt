@@ -1,5 +1,6 @@
 -- What the slip of an event must tell, part by part, by the history alone. Assumes nothing.
 use Rattle.std.proofs.Common.{◌≡◌, ℕ, ◌+◌, ◌<◌, ◌≤◌, Bool, true, false, cond, ◌⊎◌, [], ◌∷◌, Some, None, Option, sym, refl, ap, ◌∙◌, subst, inl, arith}
+use Rattle.std.proofs.lemmas.Bool.{false≢true}
 use Rattle.serial.specs.declared.life.Way.{Way}
 use Rattle.serial.specs.declared.life.Way.TheVariants.{Displaced, Taken, Emptied}
 use Rattle.serial.specs.declared.slip.ReceiveCode.{ReceiveCode}
@@ -24,7 +25,6 @@ use Rattle.history.proofs.ReceivedFates.{origin, nobody_met}
 use Rattle.history.proofs.Receiving.{count, numbered, receive_act, receiving_sane, frame_calm, frame_or_read}
 use Rattle.history.proofs.Resets.{calm_rx, calm_tx}
 use Rattle.history.proofs.Showing.{same_word}
-use Rattle.history.proofs.Small.{false_true}
 use Rattle.history.proofs.Transmitting.{transmit_act, transmitting_sane, load_calm}
 use Rattle.history.proofs.WrittenFates.{stands_at, loaded_number, clock_no_cut, nobody_dropped, nothing_done}
 
@@ -94,11 +94,7 @@ fate_of rx.Cleared = cleared
 
 -- a fate is found again by its code
 fate_found : (f : Fate) → fate_of (receive_code f) ≡ f
-fate_found (delivered false) = refl
-fate_found (delivered true) = refl
-fate_found stripped = refl
-fate_found lost = refl
-fate_found cleared = refl
+fate_found f = grind arith
 
 -- the code for those who left the receive queue in one way; m is the parity mark of the one taken
 abbrev pub receive_code_for : Option Way → Bool → ReceiveCode
@@ -109,8 +105,7 @@ receive_code_for (Some Emptied) m = rx.Cleared
 
 -- the code of a delivered character
 delivered_code : (b : Bool) → cond b rx.DeliveredMarked rx.Delivered ≡ receive_code (delivered b)
-delivered_code true = refl
-delivered_code false = refl
+delivered_code b = grind arith
 
 -- an event that strips nothing tells who left the receive queue
 pub received_foretold : (E : History) (k : ℕ) (m : Bool)
@@ -143,7 +138,7 @@ stripped_foretold E k n x s = one_told receive_code rx.Nothing (Met E k) fate_of
   where
     -- by such an event nobody leaves the receive queue
     none_left : (m : ℕ) (w : Way) → Left (receiving E) k m w → ⊥
-    none_left m w (was_displaced o h e) = false_true (sym e.1 ∙ s)
+    none_left m w (was_displaced o h e) = false≢true (sym e.1 ∙ s)
     none_left m w (was_taken h e) = frame_or_read E k 1 n x e
     none_left m w (was_emptied p h e) = calm_rx E k (frame_calm E k n x) e
 
@@ -167,8 +162,7 @@ drop_of qu.Cleared = cleared
 
 -- a drop is found again by its code
 drop_found : (d : Dropped) → drop_of (queue_code d) ≡ d
-drop_found overwritten = refl
-drop_found cleared = refl
+drop_found d = grind arith
 
 -- the code for those who left the transmit queue in one way; to be taken is no drop
 abbrev pub queue_code_for : Option Way → QueueCode
@@ -212,9 +206,7 @@ shown_by sh.Cut = cut_off
 
 -- what is done is found again by its code
 shown_found : (s : Shown) → shown_by (shift_code s) ≡ s
-shown_found a_bit = refl
-shown_found last_bit = refl
-shown_found cut_off = refl
+shown_found s = grind arith
 
 -- at a moment one byte is being shifted, of one load, with one count of bits
 pub one_shift : (E : History) (k m i p n l j : ℕ) → Shifts E k m i p → Shifts E k n l j → (m ≡ n) × (i ≡ l) × (p ≡ j)

@@ -1,4 +1,3 @@
-pub mod Small
 pub mod Apart
 pub mod Acting
 pub mod Calm

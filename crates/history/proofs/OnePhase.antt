@@ -1,31 +1,26 @@
 -- The rules of framing lead to exactly one phase and one count at each moment. Assumes nothing.
-use Rattle.std.proofs.Common.{◌≡◌, ℕ, zero, suc, ◌+◌, Bool, true, false, cond, not, ◌&&◌, ltb, Some, None, Option, sym, refl, ap, ◌∙◌}
-use Rattle.std.proofs.lemmas.Bool.{ltb-true, ltb-false, lt-ltb, le-ltb}
+use Rattle.std.proofs.Common.{◌≡◌, ℕ, zero, suc, ◌+◌, Bool, true, false, cond, ltb, Option, sym, refl, ap, ◌∙◌, arith}
+use Rattle.std.proofs.lemmas.Bool.Decides.{nat_tests}
+use Rattle.std.proofs.lemmas.Bool.{ltb-true, ltb-false, lt-ltb, le-ltb, false≢true, false_from_ne_true}
 use Rattle.history.specs.Events.{received}
 use Rattle.history.specs.Settings.{History, external, off, one_sync}
-use Rattle.history.specs.Lines.{limit, T, Phase, searching, one_sync_seen, in_sync, first, restarts, Match, Bit, Goes, restarted, untouched, no_sync, only_sync, first_sync, toward_second, second_sync, no_second, counted, character, Receiver}
+use Rattle.history.specs.Lines.{T, Phase, searching, one_sync_seen, in_sync, first, restarts, Match, Bit, Goes, restarted, untouched, no_sync, only_sync, first_sync, toward_second, second_sync, no_second, counted, character, Receiver}
 use Rattle.history.specs.Law.{One}
 use Rattle.history.proofs.Apart.{calm_bit}
 use Rattle.history.proofs.Calm.{no_restart}
 use Rattle.history.proofs.Computed.{fed, takes, next_phase, phase_at}
-use Rattle.history.proofs.Small.{false_true}
 
 -- the test of a bit that the receiver takes
 pub taken_test : (E : History) (k n : ℕ) → Bit E k n → takes (received (E k)) (off E k) n ≡ true
-taken_test E k n b =
-    ap (λ o. takes o (off E k) n) b.came ∙ ap (λ o. not o && ltb n limit) b.on ∙ lt-ltb n limit b.room
+taken_test E k n b = grind (arith, nat_tests, b.came, b.on, b.room)
 
 -- and a bit that passes the test
 pub bit_of_lem : (E : History) (k n : ℕ) (r : Option ℕ) (o : Bool) → received (E k) ≡ r → off E k ≡ o → takes r o n ≡ true → Bit E k n
-bit_of_lem E k n None o e f h = false_true h
-bit_of_lem E k n (Some b) true e f h = false_true h
-bit_of_lem E k n (Some b) false e f h = record { bit = b; came = e; on = f; room = ltb-true n limit h }
+bit_of_lem E k n r o e f h = grind (arith, nat_tests)
 
 -- the next phase and count, by whether the receiver restarts and whether it takes a bit
 next_by_lem : (E : History) (k : ℕ) (q : Phase) (m : ℕ) (r t : Bool) → restarts E k ≡ r → takes (received (E k)) (off E k) m ≡ t → next_phase E k (q, m) ≡ cond r (first (external E (suc k)), m) (cond t (fed q m (Match E k) (one_sync E k) (T E k)) (q, m))
-next_by_lem E k q m r t e f =
-    ap (λ r. cond r (first (external E (suc k)), m) (cond (takes (received (E k)) (off E k) m) (fed q m (Match E k) (one_sync E k) (T E k)) (q, m))) e
-    ∙ ap (λ t. cond r (first (external E (suc k)), m) (cond t (fed q m (Match E k) (one_sync E k) (T E k)) (q, m))) f
+next_by_lem E k q m r t e f = grind arith
 
 module _ (E : History) (k : ℕ) (S : Phase → ℕ → Type 0) where
   -- there is a next one
@@ -55,7 +50,7 @@ module _ (E : History) (k : ℕ) (S : Phase → ℕ → Type 0) where
   next_goes : (p : Phase) (n : ℕ) → S p n → (r : Bool) → restarts E k ≡ r → (t : Bool) → takes (received (E k)) (off E k) n ≡ t → Goes' (cond r (first (external E (suc k)), n) (cond t (fed p n (Match E k) (one_sync E k) (T E k)) (p, n)))
   next_goes p n s true e t f = restarted p s e refl
   next_goes p n s false e true f = from_bit p n s (bit_of_lem E k n (received (E k)) (off E k) refl refl f) (Match E k) refl (one_sync E k) refl
-  next_goes p n s false e false f = untouched s e (λ b. false_true (sym f ∙ taken_test E k n b))
+  next_goes p n s false e false f = untouched s e (λ b. false≢true (sym f ∙ taken_test E k n b))
 
   -- and no other
 
@@ -68,15 +63,11 @@ module _ (E : History) (k : ℕ) (S : Phase → ℕ → Type 0) where
 
   -- a match that is known
   fed_match : (q : Phase) (m : ℕ) (x : Bool) → Match E k ≡ x → fed q m (Match E k) (one_sync E k) (T E k) ≡ fed q m x (one_sync E k) (T E k)
-  fed_match q m x e = ap (λ x. fed q m x (one_sync E k) (T E k)) e
+  fed_match q m x e = cc
 
   -- a bit that is not taken does not pass the test
   not_taken : (n : ℕ) → (Bit E k n → ⊥) → takes (received (E k)) (off E k) n ≡ false
-  not_taken n f = go (takes (received (E k)) (off E k) n) refl
-    where
-      go : (t : Bool) → takes (received (E k)) (off E k) n ≡ t → t ≡ false
-      go true e = absurd (f (bit_of_lem E k n (received (E k)) (off E k) refl refl e))
-      go false e = refl
+  not_taken n f = false_from_ne_true _ (λ e. f (bit_of_lem E k n (received (E k)) (off E k) refl refl e))
 
   came : (p : Phase) (n : ℕ) → Goes E k S p n → Came p n
   came p n (restarted q s r e) = (q, n, s, ap (λ p. (p, n)) e ∙ sym (next_by_lem E k q n true _ r refl))

@@ -1,8 +1,8 @@
 -- The rules of sending lead to exactly one state of the transmitter at each moment. Assumes nothing.
-use Rattle.std.proofs.Common.{◌≡◌, ℕ, zero, suc, ◌+◌, ◌<◌, Bool, true, false, cond, ltb, sym, refl, ap, ◌∙◌, subst, arith, lit<}
+use Rattle.std.proofs.Common.{◌≡◌, ℕ, zero, suc, ◌+◌, ◌<◌, Bool, true, false, cond, ltb, sym, refl, ap, ◌∙◌, subst, arith}
+use Rattle.std.proofs.lemmas.Bool.Decides.{nat_tests}
 use Rattle.std.proofs.lemmas.Bool.{ltb-true, ltb-false, lt-ltb, le-ltb}
 use Rattle.serial.specs.declared.word.Form.{Form}
-use Rattle.serial.specs.declared.word.Form.TheVariants.{SixEven, SixOdd, Seven, Eight, SevenEven, SevenOdd, EightEven, EightOdd}
 use Rattle.serial.specs.Words.{total_bits}
 use Rattle.history.specs.Events.{clocks}
 use Rattle.history.specs.Settings.{History, form, held}
@@ -11,18 +11,10 @@ use Rattle.history.specs.Law.{One}
 use Rattle.history.proofs.Apart.{calm_clock}
 use Rattle.history.proofs.Calm.{held_same}
 use Rattle.history.proofs.Computed.{clocked, next_sending, sending_at}
-use Rattle.history.proofs.Small.{false_true}
 
 -- a word has bits
 positive : (f : Form) → 0 < total_bits f
-positive SixEven = lit< tt
-positive SixOdd = lit< tt
-positive Seven = lit< tt
-positive Eight = lit< tt
-positive SevenEven = lit< tt
-positive SevenOdd = lit< tt
-positive EightEven = lit< tt
-positive EightOdd = lit< tt
+positive f = grind arith
 
 -- what goes with each state
 abbrev pub Good : History → ℕ → Sending → Type 0
@@ -33,31 +25,17 @@ Good E k (showing l j) = (held E k ≡ false) × (j < T E l)
 module _ (E : History) (k : ℕ) where
   -- the next state, by whether the transmitter is held after and before the event, and whether that is a clock
   pub next_by_lem : (s : Sending) (a b c : Bool) → held E (suc k) ≡ a → held E k ≡ b → clocks (E k) ≡ c → next_sending E k s ≡ cond a still (cond b starting (cond c (clocked E k s) s))
-  next_by_lem s a b c e f g =
-      ap (λ a. cond a still (cond (held E k) starting (cond (clocks (E k)) (clocked E k s) s))) e
-      ∙ ap (λ b. cond a still (cond b starting (cond (clocks (E k)) (clocked E k s) s))) f
-      ∙ ap (λ c. cond a still (cond b starting (cond c (clocked E k s) s))) g
+  next_by_lem s a b c e f g = grind arith
 
   -- what goes with a state goes with the next one
-  good_word : (l j : ℕ) → held E (suc k) ≡ false → j < T E l → (t : Bool) → ltb (j + 1) (T E l) ≡ t → Good E (suc k) (cond t (showing l (j + 1)) (showing k 0))
-  good_word l j h g true e = (h, ltb-true _ _ e)
-  good_word l j h g false e = (h, positive (form E k))
-
   good_clocked : (s : Sending) → held E (suc k) ≡ false → held E k ≡ false → Good E k s → Good E (suc k) (clocked E k s)
-  good_clocked still h g i = false_true (sym g ∙ i)
-  good_clocked starting h g i = (h, positive (form E k))
-  good_clocked (showing l j) h g i = good_word l j h i.1 (ltb (j + 1) (T E l)) refl
+  good_clocked s h g i = grind (arith, nat_tests, positive (form E k))
 
   good_same : (s : Sending) → held E (suc k) ≡ false → held E k ≡ false → Good E k s → Good E (suc k) s
-  good_same still h g i = false_true (sym g ∙ i)
-  good_same starting h g i = h
-  good_same (showing l j) h g i = (h, i.1)
+  good_same s h g i = grind arith
 
   good_next : (s : Sending) → Good E k s → (a : Bool) → held E (suc k) ≡ a → (b : Bool) → held E k ≡ b → (c : Bool) → clocks (E k) ≡ c → Good E (suc k) (cond a still (cond b starting (cond c (clocked E k s) s)))
-  good_next s g true e b f c h = e
-  good_next s g false e true f c h = e
-  good_next s g false e false f true h = good_clocked s e f g
-  good_next s g false e false f false h = good_same s e f g
+  good_next s g a e b f c h = grind (arith, good_clocked s, good_same s)
 
   module _ (S : Sending → Type 0) where
     -- there is a next one
@@ -68,7 +46,7 @@ module _ (E : History) (k : ℕ) where
     from_word l j s g c false e = let w = ltb-false _ _ e in loaded (next_word l j c s (omega (arith, g, w))) refl
 
     from_clock : (s : Sending) → S s → Good E k s → held E k ≡ false → clocks (E k) ≡ true → Turns E k S (clocked E k s)
-    from_clock still s g h c = false_true (sym h ∙ g)
+    from_clock still s g h c = cc
     from_clock starting s g h c = loaded (first_word c s) refl
     from_clock (showing l j) s g h c = from_word l j s g.1 c (ltb (j + 1) (T E l)) refl
 

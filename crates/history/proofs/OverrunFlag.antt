@@ -1,5 +1,6 @@
 -- Two flags, overrun and its arm, that change by these rules show exactly when there is overrun. Assumes nothing.
 use Rattle.std.proofs.Common.{◌≡◌, ℕ, zero, suc, ◌<◌, ◌≤◌, Bool, true, false, not, ◌&&◌, ◌||◌, ◌⊎◌, ◌↔◌, sym, refl, subst, subst₂, inl, inr, arith}
+use Rattle.std.proofs.lemmas.Bool.{cases_eq}
 use native.Mathlib.Decide.{dec_lt}
 use Rattle.serial.specs.Life.{was_displaced}
 use Rattle.history.specs.Events.{reads}
@@ -9,7 +10,6 @@ use Rattle.history.specs.Law.{lost, Met, by_the_next, Between, Overrun}
 use Rattle.history.proofs.Apart.{calm_read, one_select}
 use Rattle.history.proofs.Receiving.{frame_calm, frame_or_read}
 use Rattle.history.proofs.Resets.{calm_rx}
-use Rattle.history.proofs.Small.{false_true}
 
 -- how the flags o (overrun) and a (its arm) become p and b by event k
 pub data FlagChange (E : History) (k : ℕ) (o a p b : Bool) : Type 0 where
@@ -51,11 +51,7 @@ module _ (P : ℕ → Type 0) (i k : ℕ) where
 
   -- it did before, where event k is no such event
   not_at_last : (P k → ⊥) → Between P i (suc k) → Between P i k
-  not_at_last none b = go (dec_lt b.0 k)
-    where
-      go : Dec (b.0 < k) → Between P i k
-      go (yes h) = (b.0, b.1, h, b.3)
-      go (no h) = let e : b.0 ≡ k = omega (arith, b.2) in absurd (none (subst P e b.3))
+  not_at_last none b = grind (arith, cases_eq b.0 k)
 
 module _ (E : History) where
   -- event i loses a character
@@ -91,7 +87,7 @@ module _ (E : History) where
 
   -- the first flag is up exactly when there is overrun
   flag_overrun : (k : ℕ) (o a : Bool) → Flag k o a → o ≡ true → Overrun E k
-  flag_overrun k o a (clear u) e = false_true e
+  flag_overrun k o a (clear u) e = cc
   flag_overrun k o a (fresh i l m none r s) e = fresh_overrun k i l m none r s
   flag_overrun k o a (seen v s l h none) e = v
 
@@ -108,22 +104,15 @@ module _ (E : History) where
   module _ (k : ℕ) where
     -- what was undone stays so
     undone_still : (i : ℕ) → Undone i k → Undone i (suc k)
-    undone_still i (inl b) = inl (still_between (λ j. ResetsReceiver E j) i k b)
-    undone_still i (inr b) = inr (b.0, b.1, omega (arith, b.2), (b.3.0, still_between (λ j. ReadsData E j) b.0 k b.3.1))
+    undone_still i u = grind (arith, still_between)
 
     -- where event k is no data read, the data read that followed Status came before
     seen_before : (i : ℕ) → (ReadsData E k → ⊥) → Seen i (suc k) → Seen i k
-    seen_before i no_data b =
-        let d = not_at_last (λ j. ReadsData E j) b.0 k no_data b.3.1 in
-        (b.0, b.1, omega (arith, d.1, d.2), (b.3.0, d))
+    seen_before i no_data b = grind (arith, not_at_last)
 
     -- where event k is no loss, the losses before event k + 1 were before event k
     earlier_losses : (Q : ℕ → Type 0) → (Loss k → ⊥) → ((i : ℕ) → i < k → Loss i → Q i) → (i : ℕ) → i < suc k → Loss i → Q i
-    earlier_losses Q no_loss h i l m = go (dec_lt i k)
-      where
-        go : Dec (i < k) → Q i
-        go (yes lt) = h i lt m
-        go (no ge) = let e : i ≡ k = omega arith in absurd (no_loss (subst Loss e m))
+    earlier_losses Q no_loss h i l m = grind (arith, cases_eq i k)
 
     -- clear, fresh and seen last over an event that doesn't end them
     clear_still : (Loss k → ⊥) → ((i : ℕ) → i < k → Loss i → Undone i k) → Flag (suc k) false false
@@ -218,9 +207,7 @@ module _ (E : History) where
 
   -- at first
   no_flags : (o a : Bool) → o ≡ false → a ≡ false → Flag 0 o a
-  no_flags true a e f = false_true (sym e)
-  no_flags false true e f = false_true (sym f)
-  no_flags false false e f = clear (λ i l m. absurd (omega arith))
+  no_flags o a e f = grind (arith, clear)
 
   module _ (o a : ℕ → Bool) (o0 : o 0 ≡ false) (a0 : a 0 ≡ false) (changes : (k : ℕ) → FlagChange E k (o k) (a k) (o (suc k)) (a (suc k))) where
     -- at each moment

@@ -1,16 +1,11 @@
 -- The law leaves no choice in what is told. Assumes nothing.
-use Rattle.std.proofs.Common.{◌≡◌, ℕ, ◌<◌, Bool, true, List, length, Ok, Err, Option, sym, refl, ap, ◌∙◌}
+use Rattle.std.proofs.Common.{◌≡◌, ℕ, ◌<◌, Bool, true, List, length, Some, Ok, Err, sym, refl, ap, ◌∙◌, arith}
+use Rattle.std.proofs.lemmas.Bool.Decides.{same_from_decides}
 use Rattle.serial.specs.declared.event.Event.{Event}
 use Rattle.serial.specs.declared.event.Refusal.{Refusal}
-use Rattle.serial.specs.declared.slip.ReceiveCode.{ReceiveCode}
 use Rattle.serial.specs.declared.slip.ReceiveCode.TheVariants as rx
-use Rattle.serial.specs.declared.slip.QueueCode.{QueueCode}
 use Rattle.serial.specs.declared.slip.QueueCode.TheVariants as qu
-use Rattle.serial.specs.declared.slip.ShiftCode.{ShiftCode}
 use Rattle.serial.specs.declared.slip.ShiftCode.TheVariants as sh
-use Rattle.serial.specs.declared.queue.Numbers.{Numbers}
-use Rattle.serial.specs.declared.queue.Queue.{Queue}
-use Rattle.serial.specs.declared.slip.Slip.{Slip}
 use Rattle.serial.specs.declared.slip.Reply.{Reply}
 use Rattle.serial.specs.declared.slip.Standing.{Standing}
 use Rattle.serial.proofs.Pinning.{tells_code, tells_numbers, places_same}
@@ -18,14 +13,6 @@ use Rattle.history.specs.Events.{bit_at, clocks}
 use Rattle.history.specs.Settings.{History, ReadsStatus}
 use Rattle.history.specs.Lines.{Writes}
 use Rattle.history.specs.Law.{Answer, Met, by_a_data_read, delivered, Drops, Does, receive_code, queue_code, shift_code, only, Shifts, Truthful, Lawful, Same, Pinned, history, answer}
-use Rattle.history.proofs.Small.{same_bool, same_option, ok_err}
-
--- a standing and a slip, part by part
-abbrev standing_of : Queue ℕ → Queue ℕ → Option ℕ → Standing
-standing_of a b c = record { received = a; queued = b; shifting = c }
-
-abbrev slip_from : ReceiveCode → Numbers → QueueCode → Numbers → ShiftCode → ℕ → Slip
-slip_from a b c d e f = record { receive = a; received = b; queue = c; queued = d; shift = e; shifted = f }
 
 -- two truthful replies
 
@@ -40,17 +27,12 @@ module _ (E : History) (k : ℕ) (x y : Reply) (a : Truthful E k x) (b : Truthfu
       let e5 : s.shift ≡ t.shift = tells_code shift_code sh.Nothing (Does E k) _ _ _ _ a.shifted_told b.shifted_told in
       let e6 : only s.shifted ≡ only t.shifted = tells_numbers shift_code sh.Nothing (Does E k) _ _ _ _ a.shifted_told b.shifted_told in
       let e7 : s.shifted ≡ t.shifted = ap (λ n. n.first) e6 in
-      ap (λ v. slip_from v s.received s.queue s.queued s.shift s.shifted) e1
-      ∙ ap (λ v. slip_from t.receive v s.queue s.queued s.shift s.shifted) e2
-      ∙ ap (λ v. slip_from t.receive t.received v s.queued s.shift s.shifted) e3
-      ∙ ap (λ v. slip_from t.receive t.received t.queue v s.shift s.shifted) e4
-      ∙ ap (λ v. slip_from t.receive t.received t.queue t.queued v s.shifted) e5
-      ∙ ap (λ v. slip_from t.receive t.received t.queue t.queued t.shift v) e7
+      grind arith
 
   -- they show overrun alike
   overruns : ReadsStatus E k → bit_at 5 x.value ≡ bit_at 5 y.value
   overruns h =
-      same_bool _ _ (λ e. (b.overrun_shown_exactly h).1 ((a.overrun_shown_exactly h).0 e)) (λ e. (a.overrun_shown_exactly h).1 ((b.overrun_shown_exactly h).0 e))
+      same_from_decides _ _ (a.overrun_shown_exactly h) (b.overrun_shown_exactly h)
 
   -- the byte that is delivered, and the bit that is shown
   bytes : (n : ℕ) (m : Bool) → Met E k n (delivered m) → x.value ≡ y.value
@@ -72,8 +54,8 @@ module _ (es : List Event) (xs ys : List Answer) (s t : Standing) (a : Lawful es
   same (Ok x) (Ok y) e f =
       let p = a.truthful k within x e in let q = b.truthful k within y f in
       (slips (history es) k x y p q, overruns (history es) k x y p q, bytes (history es) k x y p q, bits (history es) k x y p q)
-  same (Ok x) (Err r) e f = ok_err x r (sym e ∙ refusals_back r f)
-  same (Err q) (Ok y) e f = ok_err y q (sym f ∙ refusals q e)
+  same (Ok x) (Err r) e f = cc (refusals_back r f)
+  same (Err q) (Ok y) e f = cc (refusals q e)
   same (Err q) (Err r) e f = let i : ◌≡◌ {A = Answer} (Err q) (Err r) = sym (refusals q e) ∙ f in cc
 
 -- and with them all answers and the question
@@ -81,7 +63,8 @@ pub pinned : Pinned
 pinned es xs ys s t a b = (
   let e1 : s.received ≡ t.received = places_same _ _ (λ n p h. (b.received_waiting_told n p).1 ((a.received_waiting_told n p).0 h)) (λ n p h. (a.received_waiting_told n p).1 ((b.received_waiting_told n p).0 h)) in
       let e2 : s.queued ≡ t.queued = places_same _ _ (λ n p h. (b.written_waiting_told n p).1 ((a.written_waiting_told n p).0 h)) (λ n p h. (a.written_waiting_told n p).1 ((b.written_waiting_told n p).0 h)) in
-      let e3 : s.shifting ≡ t.shifting = same_option _ _ (λ n h. (b.shifting_told n).1 ((a.shifting_told n).0 h)) (λ n h. (a.shifting_told n).1 ((b.shifting_told n).0 h)) in
-      ap (λ v. standing_of v s.queued s.shifting) e1 ∙ ap (λ v. standing_of t.received v s.shifting) e2 ∙ ap (λ v. standing_of t.received t.queued v) e3,
+      let to : (n : ℕ) → s.shifting ≡ Some n → t.shifting ≡ Some n = λ n h. (b.shifting_told n).1 ((a.shifting_told n).0 h) in
+      let from : (n : ℕ) → t.shifting ≡ Some n → s.shifting ≡ Some n = λ n h. (a.shifting_told n).1 ((b.shifting_told n).0 h) in
+      grind arith,
   λ k within. same es xs ys s t a b k within (answer xs k) (answer ys k) refl refl,
 )

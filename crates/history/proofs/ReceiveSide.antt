@@ -1,6 +1,6 @@
 -- What each event does on the receive side of the adapter is what the rules say: the queue, what is told, and overrun. Assumes nothing.
-use Rattle.std.proofs.Common.{◌≡◌, ℕ, ◌<◌, ◌≤◌, Bool, true, false, cond, eqb, List, [], Some, None, Ok, Err, Option, sym, refl, ap, ◌∙◌, subst, subst₂, inl, arith}
-use Rattle.std.proofs.lemmas.Bool.{le-leb}
+use Rattle.std.proofs.Common.{◌≡◌, ℕ, ◌<◌, ◌≤◌, Bool, true, false, cond, eqb, [], Some, None, Ok, Err, Option, sym, refl, ap, ◌∙◌, subst, subst₂, inl, arith}
+use Rattle.std.proofs.lemmas.Bool.{le-leb, false≢true}
 use Rattle.std.specs.Option.{option_map}
 use Rattle.serial.specs.Life.{Stands, was_displaced, was_taken}
 use Rattle.serial.specs.Moves.{Act, enter, rise, take, empty, nothing, acted, queue_at, tells, tells_of}
@@ -9,10 +9,8 @@ use Rattle.serial.specs.Slips.{quiet_slip}
 use Rattle.serial.specs.Telling.{Tells}
 use Rattle.serial.specs.declared.event.Cycle.TheVariants.{Idle, Read}
 use Rattle.serial.specs.declared.event.Event.TheVariants.{Bus, ReceivedBit}
-use Rattle.serial.specs.declared.life.Way.{Way}
 use Rattle.serial.specs.declared.life.Way.TheVariants.{Displaced, Taken, Emptied}
 use Rattle.serial.specs.declared.queue.Queue.{Queue}
-use Rattle.serial.specs.declared.slip.ReceiveCode.{ReceiveCode}
 use Rattle.serial.specs.declared.slip.ReceiveCode.TheVariants as rx
 use Rattle.serial.proofs.Carried.{numbers_risen, numbers_waiting}
 use Rattle.serial.proofs.Places.{In, Held}
@@ -39,7 +37,6 @@ use Rattle.history.proofs.OverrunFlag.{FlagChange, set_by_a_loss, cleared_by_a_r
 use Rattle.history.proofs.ReceivedFates.{framed_once}
 use Rattle.history.proofs.Receiving.{receive_act, here_now, received_tie, unframed, frame_calm, frame_or_read, frame_or_idle}
 use Rattle.history.proofs.Resets.{calm_rx}
-use Rattle.history.proofs.Small.{false_true, cond_through}
 
 -- character c was framed by an event, as the rules frame it
 pub record Origin (E : History) (c : Character) : Type 0 where
@@ -67,7 +64,7 @@ RightIn E k (Err r) = Unit {0}
 pub record Turned (E : History) (k : ℕ) (s t : State) (o : Outcome) : Type 0 where
   pub numbers : numbers_by character_number t.receive ≡ acted (numbers_by character_number s.receive) (receive_act E k)
   pub contents : Each (Origin E) t.receive
-  pub flags : FlagChange E k s.flags.overrun s.flags.overrun_armed t.flags.overrun t.flags.overrun_armed
+  pub flags : FlagChange E k s.flags.overrun.set s.flags.overrun.armed t.flags.overrun.set t.flags.overrun.armed
   pub right : RightIn E k o
 
 -- event k does nothing to the receive queue
@@ -86,7 +83,7 @@ module _ (E : History) (k : ℕ) where
   still_act : Still E k → receive_act E k ≡ nothing
   still_act q =
       let h = here_now E k in
-      is_nothing (receive_act E k) (λ n i. q.no_frame n ((h.entering n).1 i).0) (λ i. false_true (sym q.no_idle ∙ h.rising.1 i)) (λ i. false_true (sym q.no_data ∙ h.taking.1 i)) (λ i. q.no_reset (h.emptying.1 i))
+      is_nothing (receive_act E k) (λ n i. q.no_frame n ((h.entering n).1 i).0) (λ i. false≢true (sym q.no_idle ∙ h.rising.1 i)) (λ i. false≢true (sym q.no_data ∙ h.taking.1 i)) (λ i. q.no_reset (h.emptying.1 i))
 
   idle_act : idles (E k) ≡ true → receive_act E k ≡ rise
   idle_act h = is_rise (receive_act E k) ((here_now E k).rising.0 h)
@@ -101,9 +98,7 @@ module _ (E : History) (k : ℕ) where
   enter_act n f h = is_enter (receive_act E k) n (((here_now E k).entering n).0 (f, h))
 
   strip_act : (n : ℕ) → Frames E k n → strips E k ≡ true → receive_act E k ≡ nothing
-  strip_act n f h =
-      let x = here_now E k in
-      is_nothing (receive_act E k) (λ m i. false_true (sym ((x.entering m).1 i).1 ∙ h)) (λ i. frame_or_idle E k n f (x.rising.1 i)) (λ i. frame_or_read E k 1 n f (x.taking.1 i)) (λ i. calm_rx E k (frame_calm E k n f) (x.emptying.1 i))
+  strip_act n f h = grind (arith, here_now, is_nothing, frame_or_idle, frame_or_read, calm_rx, frame_calm)
 
   -- without a data read nothing is delivered
   no_delivery : (ReadsData E k → ⊥) → (t : Told) (n i : ℕ) (m : Bool) → Met E k n (delivered m) → Frames E i n → t.value ≡ byte_framed E i
@@ -116,13 +111,13 @@ module _ (E : History) (k : ℕ) where
 
   quiet_right : Still E k → (o : Outcome) → QuietIn o → RightIn E k o
   quiet_right q (Ok t) h = record {
-    told = rw (h.0, h.1) (none_received E k q.no_frame (λ d. false_true (sym q.no_data ∙ d)) q.no_reset);
-    byte = no_delivery (λ d. false_true (sym q.no_data ∙ d)) t;
+    told = rw (h.0, h.1) (none_received E k q.no_frame (λ d. false≢true (sym q.no_data ∙ d)) q.no_reset);
+    byte = no_delivery (λ d. false≢true (sym q.no_data ∙ d)) t;
   }
   quiet_right q (Err r) h = tt
 
   -- such an event, whole
-  pub plain : Still E k → (s t : State) (o : Outcome) → Waits E k s.receive → t.receive ≡ s.receive → FlagChange E k s.flags.overrun s.flags.overrun_armed t.flags.overrun t.flags.overrun_armed → QuietIn o → Turned E k s t o
+  pub plain : Still E k → (s t : State) (o : Outcome) → Waits E k s.receive → t.receive ≡ s.receive → FlagChange E k s.flags.overrun.set s.flags.overrun.armed t.flags.overrun.set t.flags.overrun.armed → QuietIn o → Turned E k s t o
   plain q s t o w e g h = record {
     numbers = ap (numbers_by character_number) e ∙ sym (ap (acted (numbers_by character_number s.receive)) (still_act q));
     contents = subst (Each (Origin E)) (sym e) w.contents;
@@ -131,8 +126,8 @@ module _ (E : History) (k : ℕ) where
   }
 
   -- nothing happens to overrun
-  pub kept : Still E k → (reads 0 (E k) ≡ true → ⊥) → (s t : State) → t.flags.overrun ≡ s.flags.overrun → t.flags.overrun_armed ≡ s.flags.overrun_armed → FlagChange E k s.flags.overrun s.flags.overrun_armed t.flags.overrun t.flags.overrun_armed
-  kept q u s t e f = left_alone (λ n m. let x = loss_frames E k n m in q.no_frame x.0 x.1) q.no_reset u (λ d. false_true (sym q.no_data ∙ d)) e f
+  pub kept : Still E k → (reads 0 (E k) ≡ true → ⊥) → (s t : State) → t.flags.overrun.set ≡ s.flags.overrun.set → t.flags.overrun.armed ≡ s.flags.overrun.armed → FlagChange E k s.flags.overrun.set s.flags.overrun.armed t.flags.overrun.set t.flags.overrun.armed
+  kept q u s t e f = left_alone (λ n m. let x = loss_frames E k n m in q.no_frame x.0 x.1) q.no_reset u (λ d. false≢true (sym q.no_data ∙ d)) e f
 
 module _ (E : History) (k : ℕ) (q : Queue Character) (w : Waits E k q) where
   -- who stands at the output
@@ -174,7 +169,7 @@ module _ (E : History) (k : ℕ) (s : State) (w : Waits E k s.receive) where
   pub idle_turned : E k ≡ Bus Idle → Turned E k s (idled s) quietly
   idle_turned x =
       let no_frame = unframed E k (ap received x) in
-      let unread = λ (r : ℕ) (h : reads r (E k) ≡ true). false_true {A = ⊥} (sym (ap (reads r) x) ∙ h) in
+      let unread = λ (r : ℕ) (h : reads r (E k) ≡ true). false≢true (sym (ap (reads r) x) ∙ h) in
       let act = idle_act E k (ap idles x) in
       record {
         numbers = numbers_risen character_number q ∙ sym (ap (acted (numbers_by character_number q)) act);
@@ -214,7 +209,7 @@ module _ (E : History) (k : ℕ) (s : State) (w : Waits E k s.receive) where
   }
 
   -- a reset of the receiver
-  pub reset_turned : ResetsReceiver E k → (ReadsData E k → ⊥) → ((n : ℕ) → Frames E k n → ⊥) → (t : State) (o : Told) → t.receive ≡ empty_queue → t.flags.overrun ≡ false → t.flags.overrun_armed ≡ false → o.slip.receive ≡ cond (eqb (cleared_received s).first 0) rx.Nothing rx.Cleared → o.slip.received ≡ cleared_received s → Turned E k s t (Ok o)
+  pub reset_turned : ResetsReceiver E k → (ReadsData E k → ⊥) → ((n : ℕ) → Frames E k n → ⊥) → (t : State) (o : Told) → t.receive ≡ empty_queue → t.flags.overrun.set ≡ false → t.flags.overrun.armed ≡ false → o.slip.receive ≡ cond (eqb (cleared_received s).first 0) rx.Nothing rx.Cleared → o.slip.received ≡ cleared_received s → Turned E k s t (Ok o)
   reset_turned r unread no_frame t o e a b c d = record {
     numbers = ap (numbers_by character_number) e ∙ sym (ap (acted (numbers_by character_number q)) (reset_act E k r));
     contents = subst (Each (Origin E)) (sym e) (each_empty (Origin E));
@@ -226,9 +221,7 @@ module _ (E : History) (k : ℕ) (s : State) (w : Waits E k s.receive) where
       foretold = foretold_as E k q w empty (reset_act E k r) (λ n f h. no_frame n f)
 
       told_now : Tells receive_code rx.Nothing (Met E k) (cond (eqb (cleared_received s).first 0) rx.Nothing rx.Cleared) (cleared_received s)
-      told_now =
-          subst (λ (ns : List ℕ). Tells receive_code rx.Nothing (Met E k) (cond (eqb (fields ns).first 0) rx.Nothing rx.Cleared) (fields ns)) (sym (numbers_waiting character_number q))
-          (subst (λ (c : ReceiveCode). Tells receive_code rx.Nothing (Met E k) c (fields (waiting (λ n. n) (numbers_by character_number q)))) (cond_through (λ (o : Option Way). receive_code_for o (mark_in q.three)) _ None (Some Emptied)) foretold)
+      told_now = grind (arith, numbers_waiting character_number q, foretold)
 
   -- a character that is stripped
   strip_turned : (n : ℕ) → Frames E k n → strips E k ≡ true → (t : State) → t.receive ≡ q → t.flags ≡ s.flags → Turned E k s t (Ok (told_of 0 (tell_receive rx.Stripped n)))
@@ -237,12 +230,12 @@ module _ (E : History) (k : ℕ) (s : State) (w : Waits E k s.receive) where
       record {
         numbers = ap (numbers_by character_number) e ∙ sym (ap (acted (numbers_by character_number q)) (strip_act E k n f h));
         contents = subst (Each (Origin E)) (sym e) w.contents;
-        flags = left_alone unlost (calm_rx E k calm) (frame_or_read E k 0 n f) (frame_or_read E k 1 n f) (ap (λ g. g.overrun) g) (ap (λ g. g.overrun_armed) g);
+        flags = left_alone unlost (calm_rx E k calm) (frame_or_read E k 0 n f) (frame_or_read E k 1 n f) (ap (λ g. g.overrun.set) g) (ap (λ g. g.overrun.armed) g);
         right = record { told = stripped_foretold E k n f h; byte = no_delivery E k (frame_or_read E k 1 n f) (told_of 0 (tell_receive rx.Stripped n)) };
       }
     where
       unlost : (m : ℕ) → Met E k m lost → ⊥
-      unlost m (by_the_next (was_displaced i a b)) = false_true (sym b.1 ∙ h)
+      unlost m (by_the_next (was_displaced i a b)) = false≢true (sym b.1 ∙ h)
 
   -- a character that enters; what it displaces is lost
   module _ (c : Character) (f : Frames E k c.number) (h : strips E k ≡ false) where
@@ -260,22 +253,21 @@ module _ (E : History) (k : ℕ) (s : State) (w : Waits E k s.receive) where
     keeps e n (by_the_next (was_displaced i a b)) = subst (λ (o : Option Character). In (option_map character_number o) n) e (at_input n a)
 
     -- so overrun is set exactly then
-    loss_change : (o : Option Character) → q.one ≡ o → FlagChange E k s.flags.overrun s.flags.overrun_armed (loss_if o s.flags).overrun (loss_if o s.flags).overrun_armed
+    loss_change : (o : Option Character) → q.one ≡ o → FlagChange E k s.flags.overrun.set s.flags.overrun.armed (loss_if o s.flags).overrun.set (loss_if o s.flags).overrun.armed
     loss_change None e = left_alone (keeps e) (calm_rx E k (frame_calm E k c.number f)) (frame_or_read E k 0 c.number f) (frame_or_read E k 1 c.number f) refl refl
     loss_change (Some d) e = set_by_a_loss d.number (loses d e) refl refl
 
     -- and the loss is told
     loss_told_lem : (o : Option Character) → Holds (Origin E) o → Tells receive_code rx.Nothing (Met E k) (receive_code_for (tells Displaced (fields (list_of (option_map character_number o)))).way (mark_in q.three)) (fields (list_of (option_map character_number o))) → Tells receive_code rx.Nothing (Met E k) (loss_of o).receive (loss_of o).received
-    loss_told_lem None i t = t
-    loss_told_lem (Some d) i t = simp (way_told d.number Displaced (a_number E d i)) at t
+    loss_told_lem o i t = grind (arith, way_told, a_number)
 
     enter_turned : Origin E c → (t : State) → t.receive ≡ entered q c → t.flags ≡ loss_if q.one s.flags → Turned E k s t (Ok (told_of 0 (loss_of q.one)))
     enter_turned i t e g = record {
       numbers = ap (numbers_by character_number) e ∙ sym (ap (acted (numbers_by character_number q)) (enter_act E k c.number f h));
       contents = subst (Each (Origin E)) (sym e) (each_entered (Origin E) q c w.contents i);
-      flags = subst (λ (g : Flags). FlagChange E k s.flags.overrun s.flags.overrun_armed g.overrun g.overrun_armed) (sym g) (loss_change q.one refl);
+      flags = subst (λ (g : Flags). FlagChange E k s.flags.overrun.set s.flags.overrun.armed g.overrun.set g.overrun.armed) (sym g) (loss_change q.one refl);
       right = record {
-        told = loss_told_lem q.one w.contents.first (foretold_as E k q w (enter c.number) (enter_act E k c.number f h) (λ n f s. false_true (sym h ∙ s)));
+        told = loss_told_lem q.one w.contents.first (foretold_as E k q w (enter c.number) (enter_act E k c.number f h) (λ n f s. false≢true (sym h ∙ s)));
         byte = no_delivery E k (frame_or_read E k 1 c.number f) (told_of 0 (loss_of q.one));
       };
     }

@@ -1,5 +1,6 @@
 -- Every framed character has one fate, and characters are delivered in rising numbers. Assumes nothing.
-use Rattle.std.proofs.Common.{◌≡◌, ℕ, zero, suc, ◌+◌, ◌<◌, ◌≤◌, Bool, true, false, ◌⊎◌, sym, refl, ap, ◌∙◌, subst, inl, inr, arith}
+use Rattle.std.proofs.Common.{◌≡◌, ℕ, zero, suc, ◌<◌, ◌≤◌, Bool, true, false, ◌⊎◌, sym, refl, ap, ◌∙◌, subst, inl, inr, arith}
+use Rattle.std.proofs.lemmas.Bool.{false≢true}
 use Rattle.serial.specs.Lives.{OneFate, Rising}
 use Rattle.serial.specs.Life.{Stands, enters, stays, rises, Left, was_displaced, was_taken, was_emptied}
 use Rattle.serial.specs.declared.life.Way.{Way}
@@ -12,7 +13,6 @@ use Rattle.history.specs.Law.{receiving, Fate, delivered, stripped, lost, cleare
 use Rattle.history.proofs.Acting.{way_no}
 use Rattle.history.proofs.OnePhase.{receiver_is}
 use Rattle.history.proofs.Receiving.{count, count_step, numbered, receive_act, receiving_sane}
-use Rattle.history.proofs.Small.{false_true, neither_first}
 
 module _ (E : History) where
   abbrev sane : places.Sane (receiving E) (receive_act E) (count E)
@@ -20,11 +20,7 @@ module _ (E : History) where
 
   -- a number by which the count grows is framed then
   comes_framed : (k n : ℕ) → count E k < n → n ≤ count E (suc k) → Frames E k n
-  comes_framed k n l u = go (count_step E k)
-    where
-      go : (count E (suc k) ≡ count E k) ⊎ (Frames E k (count E k + 1) × (count E (suc k) ≡ count E k + 1)) → Frames E k n
-      go (inl e) = absurd (omega (arith, e))
-      go (inr e) = let i : count E k + 1 ≡ n = omega (arith, e.1) in subst (Frames E k) i e.0
+  comes_framed k n l u = grind (arith, count_step E k)
 
   -- the count never falls
   up : (j k : ℕ) → j ≤ k → count E j ≤ count E k
@@ -32,7 +28,7 @@ module _ (E : History) where
 
   -- a number is framed once
   pub framed_once : (i j n : ℕ) → Frames E i n → Frames E j n → i ≡ j
-  framed_once i j n f g = neither_first i j (apart i j f g) (apart j i g f)
+  framed_once i j n f g = let a = apart i j f g in let b = apart j i g f in omega arith
     where
       apart : (i j : ℕ) → Frames E i n → Frames E j n → i < j → ⊥
       apart i j f g l = omega (arith, (numbered E i n f).1, (numbered E j n g).0, up (suc i) j (omega arith))
@@ -80,7 +76,7 @@ module _ (E : History) where
 
   -- who met an end stands nowhere after it
   strip_stops : (k n p : ℕ) → Frames E k n → strips E k ≡ true → Stands (receiving E) (suc k) n p → ⊥
-  strip_stops k n p x e (enters f b) = false_true (sym f.1 ∙ e)
+  strip_stops k n p x e (enters f b) = false≢true (sym f.1 ∙ e)
   strip_stops k n p x e (stays h d) = omega (arith, (numbered E k n x).0, (places.counted (receiving E) (receive_act E) (count E) sane k n p h).1)
   strip_stops k n p x e (rises q c r h w b) = omega (arith, (numbered E k n x).0, (places.counted (receiving E) (receive_act E) (count E) sane k n q h).1)
 

@@ -1,6 +1,8 @@
 -- The acts on the receive queue can be told apart, and entering numbers rise; so its queue holds exactly those who stand. Assumes nothing.
 use Rattle.std.proofs.Common.{◌≡◌, ℕ, suc, ◌+◌, ◌<◌, ◌≤◌, Bool, true, false, cond, not, ◌&&◌, ltb, ◌⊎◌, Some, None, Option, sym, refl, ap, ◌∙◌, inl, inr, arith}
-use Rattle.std.proofs.lemmas.Bool.{ltb-false, le-ltb, not-true, and_parts}
+use Rattle.std.proofs.lemmas.Bool.Decides.{nat_tests}
+use Rattle.std.proofs.lemmas.Option.{none-some, cond_some}
+use Rattle.std.proofs.lemmas.Bool.{ltb-false, not-true, and_parts}
 use Rattle.serial.specs.Life.{Stands}
 use Rattle.serial.specs.Moves.{Act, queue_at}
 use Rattle.serial.proofs.Standing.{Sane, Tie, tie}
@@ -14,7 +16,6 @@ use Rattle.history.proofs.Apart.{Calm, calm_idle, calm_read, calm_bit, idle_or_r
 use Rattle.history.proofs.Computed.{fed, takes, phase_at}
 use Rattle.history.proofs.OnePhase.{receiver_at, receiver_is, taken_test, bit_of_lem}
 use Rattle.history.proofs.Resets.{resets_by, rx_to, rx_from, calm_rx}
-use Rattle.history.proofs.Small.{none_some, some_is}
 
 -- FRAMING, COMPUTED
 
@@ -33,26 +34,19 @@ frame_at E k = ends_of E k (phase_at E k)
 module _ (E : History) (k : ℕ) where
   -- what is framed is computed
   pub frames_to : (n : ℕ) → Frames E k n → frame_at E k ≡ Some n
-  frames_to n f =
-      sym (ap (ends_of E k) (receiver_is E k (in_sync f.counted) f.before f.phase))
-      ∙ ap (λ t. cond (t && not (ltb (f.counted + 1) (T E k))) (Some (f.before + 1)) None) (taken_test E k f.before f.bit)
-      ∙ ap (λ t. cond (not t) (Some (f.before + 1)) None) (le-ltb _ _ f.full)
-      ∙ ap Some (sym f.next)
+  frames_to n f = grind (arith, nat_tests, receiver_is, taken_test)
 
   -- and back
   pub frames_from : (n : ℕ) → frame_at E k ≡ Some n → Frames E k n
   frames_from n h = go (phase_at E k).0 (phase_at E k).1 (receiver_at E k) h
     where
-      full : (j m : ℕ) → Receiver E k (in_sync j) m → (t : Bool) → (takes (received (E k)) (off E k) m && not (ltb (j + 1) (T E k))) ≡ t → cond t (Some (m + 1)) None ≡ Some n → Frames E k n
-      full j m r true e h =
-          let b = and_parts _ _ e in
-          record { before = m; counted = j; phase = r; bit = bit_of_lem E k m (received (E k)) (off E k) refl refl b.0; full = ltb-false _ _ (not-true _ b.1); next = sym (some_is h) }
-      full j m r false e h = none_some n h
-
       go : (p : Phase) (m : ℕ) → Receiver E k p m → ends_of E k (p, m) ≡ Some n → Frames E k n
-      go searching m r h = none_some n h
-      go (one_sync_seen j) m r h = none_some n h
-      go (in_sync j) m r h = full j m r _ refl h
+      go searching m r h = cc
+      go (one_sync_seen j) m r h = cc
+      go (in_sync j) m r h =
+          let c = cond_some _ (m + 1) n h in
+          let b = and_parts _ _ c.0 in
+          record { before = m; counted = j; phase = r; bit = bit_of_lem E k m (received (E k)) (off E k) refl refl b.0; full = ltb-false _ _ (not-true _ b.1); next = sym c.1 }
 
 -- characters are counted: one more by an event that frames, else none
 abbrev pub count : History → ℕ → ℕ
@@ -62,28 +56,13 @@ module _ (E : History) (k : ℕ) where
   abbrev Step : Phase × ℕ → Phase × ℕ → Option ℕ → Type 0
   Step x y o = (y.1 ≡ x.1) ⊎ ((o ≡ Some (x.1 + 1)) × (y.1 ≡ x.1 + 1))
 
-  sync_step : (j n : ℕ) (b : Bool) → Step (in_sync j, n) (cond b (in_sync (j + 1), n) (in_sync 0, n + 1)) (cond (not b) (Some (n + 1)) None)
-  sync_step j n true = inl refl
-  sync_step j n false = inr (refl, refl)
-
-  fed_step : (p : Phase) (n : ℕ) → Step (p, n) (fed p n (Match E k) (one_sync E k) (T E k)) (ends_at p n true (T E k))
-  fed_step searching n = inl refl
-  fed_step (one_sync_seen j) n = inl refl
-  fed_step (in_sync j) n = sync_step j n (ltb (j + 1) (T E k))
-
   -- over one event, by whether the receiver restarts and whether it takes a bit
   step : (x : Phase × ℕ) (r t : Bool) → Step x (cond r (first (external E (suc k)), x.1) (cond t (fed x.0 x.1 (Match E k) (one_sync E k) (T E k)) x)) (ends_at x.0 x.1 t (T E k))
-  step x true t = inl refl
-  step x false true = fed_step x.0 x.1
-  step x false false = inl refl
+  step x r t = grind arith
 
   -- so the count stays, or a character with the next number is framed
   pub count_step : (count E (suc k) ≡ count E k) ⊎ (Frames E k (count E k + 1) × (count E (suc k) ≡ count E k + 1))
-  count_step = go (step (phase_at E k) (restarts E k) (takes (received (E k)) (off E k) (count E k)))
-    where
-      go : Step (phase_at E k) (phase_at E (suc k)) (frame_at E k) → (count E (suc k) ≡ count E k) ⊎ (Frames E k (count E k + 1) × (count E (suc k) ≡ count E k + 1))
-      go (inl e) = inl e
-      go (inr e) = inr (frames_from E k (count E k + 1) e.0, e.1)
+  count_step = grind (arith, step (phase_at E k) (restarts E k) (takes (received (E k)) (off E k) (count E k)), frames_from E k (count E k + 1))
 
   grows : count E k ≤ count E (suc k)
   grows = elim count_step [ inl e ↦ omega (arith, e) | inr e ↦ omega (arith, e.1) ]
@@ -97,7 +76,7 @@ module _ (E : History) (k : ℕ) where
 
   -- it is framed by a received bit, so by nothing else
   pub unframed : received (E k) ≡ None → (n : ℕ) → Frames E k n → ⊥
-  unframed h n f = none_some f.bit.bit (sym h ∙ f.bit.came)
+  unframed h n f = none-some f.bit.bit (sym h ∙ f.bit.came)
 
   pub frame_calm : (n : ℕ) → Frames E k n → Calm (E k)
   frame_calm n f = calm_bit (E k) f.bit.bit f.bit.came
@@ -123,7 +102,7 @@ module _ (E : History) (k : ℕ) where
   enters_from n h = go (strips E k) refl h
     where
       go : (b : Bool) → strips E k ≡ b → cond b None (frame_at E k) ≡ Some n → Frames E k n × (strips E k ≡ false)
-      go true e i = none_some n i
+      go true e i = cc
       go false e i = (frames_from E k n i, e)
 
   -- event k is this act, and nothing else

@@ -1,6 +1,7 @@
 -- The adapter refuses an event exactly when the rules decline it, and for their reason. Assumes nothing.
-use Rattle.std.proofs.Common.{◌≡◌, ℕ, zero, suc, ◌+◌, ◌<◌, ◌≤◌, Bool, true, false, cond, ltb, ◌⊎◌, ◌↔◌, Some, None, Ok, Err, Option, Result, ◌==◌, sym, refl, ap, ◌∙◌, subst, inl, inr, arith}
-use Rattle.std.proofs.lemmas.Bool.{le-leb, ltb-true}
+use Rattle.std.proofs.Common.{◌≡◌, ℕ, zero, suc, ◌<◌, ◌≤◌, cond, ◌↔◌, Some, None, Ok, Err, Option, Result, ◌==◌, sym, refl, ap, ◌∙◌, subst, arith}
+use Rattle.std.proofs.lemmas.Bool.Decides.{nat_tests}
+use Rattle.std.proofs.lemmas.Bool.{le-leb}
 use Rattle.serial.specs.declared.event.Cycle.TheVariants.{Write}
 use Rattle.serial.specs.declared.event.Event.{Event}
 use Rattle.serial.specs.declared.event.Event.TheVariants.{Bus}
@@ -12,7 +13,7 @@ use Rattle.ssda.specs.Front.{checked_by}
 use Rattle.ssda.specs.Stepped.{answered_by}
 use Rattle.history.specs.Events.{refusal_by_range, received, writes}
 use Rattle.history.specs.Settings.{History, to_data}
-use Rattle.history.specs.Lines.{limit, Frames, Receiver, one_more, written}
+use Rattle.history.specs.Lines.{limit, Receiver, written}
 use Rattle.history.specs.Law.{Declined, out_of_range, framed_full, written_full}
 use Rattle.history.specs.Answering.{WritesBytes, state_at, answer_at}
 use Rattle.history.proofs.Calm.{not_to_data}
@@ -21,7 +22,6 @@ use Rattle.history.proofs.Computed.{phase_at}
 use Rattle.history.proofs.Declining.{refusal_one}
 use Rattle.history.proofs.OnePhase.{receiver_at, receiver_is}
 use Rattle.history.proofs.Receiving.{count, count_step}
-use Rattle.history.proofs.Small.{none_some, ok_err}
 use Rattle.history.proofs.Tied.{tied, written_now}
 use Rattle.history.proofs.TiedReceiver.{framed_at}
 use Rattle.history.proofs.Views.{at, place_of}
@@ -29,20 +29,11 @@ use Rattle.history.proofs.Views.{at, place_of}
 -- no more than all numbers are ever used
 written_most : (E : History) (k : ℕ) → written E k ≤ limit
 written_most E zero = omega arith
-written_most E (suc k) = more (to_data E k) (ltb (written E k) limit) refl (written_most E k)
-  where
-    more : (o : Option ℕ) (t : Bool) → ltb (written E k) limit ≡ t → written E k ≤ limit → one_more o (written E k) ≤ limit
-    more None t e h = h
-    more (Some b) true e h = simp e (omega (arith, ltb-true _ _ e))
-    more (Some b) false e h = simp e h
+written_most E (suc k) = let h = written_most E k in grind (arith, nat_tests)
 
 framed_most : (E : History) (k : ℕ) → count E k ≤ limit
 framed_most E zero = omega arith
-framed_most E (suc k) = go (count_step E k) (framed_most E k)
-  where
-    go : (count E (suc k) ≡ count E k) ⊎ (Frames E k (count E k + 1) × (count E (suc k) ≡ count E k + 1)) → count E k ≤ limit → count E (suc k) ≤ limit
-    go (inl e) h = omega (arith, e)
-    go (inr e) h = omega (arith, e.1, e.0.next, e.0.bit.room)
+framed_most E (suc k) = let h = framed_most E k in grind (arith, count_step E k)
 
 -- the byte that event k writes to transmit data, by where the adapter's writes with RS 1 go
 abbrev pub data_by : Target → Option ℕ → Option ℕ
@@ -61,9 +52,7 @@ module _ (E : History) (bytes : WritesBytes E) (k : ℕ) where
 
   -- an event that is in its range and for which there is room
   accepted : refusal_by_range (E k) ≡ None → ((b : ℕ) → received (E k) ≡ Some b → count E k < limit) → ((b : ℕ) → to_data E k ≡ Some b → written E k < limit) → (r : Refusal) → Declined E k r → ⊥
-  accepted h i j r (out_of_range q e) = none_some q (sym h ∙ e)
-  accepted h i j r (framed_full b came full) = omega (arith, i b came, ap (λ x. x.1) (receiver_is E k full.0 limit full.1))
-  accepted h i j r (written_full b came full) = omega (arith, j b came, full)
+  accepted h i j r d = grind (arith, receiver_is)
 
   -- what the rules say of an outcome: they decline the event for this reason, or not at all
   abbrev Agrees : Outcome → Type 0
@@ -75,15 +64,11 @@ module _ (E : History) (bytes : WritesBytes E) (k : ℕ) where
 
   -- no bit, no write: in range is enough
   calmly : (e : Event) → refusal_by_range e ≡ None → received e ≡ None → writes 1 e ≡ None → E k ≡ e → (r : Refusal) → Declined E k r → ⊥
-  calmly e h i j x =
-      accepted (ap refusal_by_range x ∙ h) (λ b came. none_some b (sym (ap received x ∙ i) ∙ came))
-      (not_to_data E k (ap (writes 1) x ∙ j))
+  calmly e h i j x = grind (arith, accepted, not_to_data)
 
   -- a write to another register
   aside : (b : ℕ) (t : Target) → s.front.control.target ≡ t → data_by t (Some b) ≡ None → E k ≡ Bus (Write 1 b) → (r : Refusal) → Declined E k r → ⊥
-  aside b t e h x =
-      accepted (ap refusal_by_range x) (λ c came. none_some c (sym (ap received x) ∙ came))
-      (λ c came. none_some c (sym (data_by_lem b t e x ∙ h) ∙ came))
+  aside b t e h x = grind (arith, accepted, data_by_lem)
 
   -- each case
   right_cases : Cases s Rightly
@@ -95,7 +80,7 @@ module _ (E : History) (bytes : WritesBytes E) (k : ℕ) where
     c2 = λ b e x. aside b C2 e refl x;
     c3 = λ b e x. aside b C3 e refl x;
     code = λ b e x. aside b SyncCode e refl x;
-    byte = λ b e h x. accepted (ap refusal_by_range x) (λ c came. none_some c (sym (ap received x) ∙ came)) (λ c came. omega (arith, h, written_now E bytes k));
+    byte = λ b e h x. accepted (ap refusal_by_range x) (λ c came. cc (ap received x)) (λ c came. omega (arith, h, written_now E bytes k));
     bit = λ b l h x. accepted (ap refusal_by_range x ∙ simp (le-leb b 1 l)) (λ c came. omega (arith, h, framed_at E bytes k)) (not_to_data E k (ap (writes 1) x));
     clock = λ x. calmly _ refl refl refl x;
     reset_falls = λ e x. calmly _ refl refl refl x;
@@ -125,8 +110,7 @@ module _ (E : History) (bytes : WritesBytes E) (k : ℕ) where
 
   -- the adapter's answer to event k, by the check that it makes
   answer_by : (c : Result (Unit {0}) Refusal) → Agrees (outcome_by c s (E k)) → (r : Refusal) → (answered_by c s (E k) ≡ Err r) ↔ Declined E k r
-  answer_by (Ok x) h r = ((λ e. ok_err _ r e), (λ d. absurd (h r d)))
-  answer_by (Err q) h r = ((λ e. let y : q ≡ r = cc in subst (Declined E k) y h), (λ d. ap Err (refusal_one E k q r h d)))
+  answer_by c h r = grind (arith, refusal_one)
 
   pub refused_at : (r : Refusal) → (answer_at E k ≡ Err r) ↔ Declined E k r
   refused_at r = answer_by (checked_by s.front (E k)) rightly r

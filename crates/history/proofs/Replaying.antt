@@ -1,17 +1,15 @@
 -- One more event of a replay; the interrupt that a Status read shows; and the rules of both lines hold of the adapter. Assumes nothing.
-use Rattle.std.proofs.Common.{◌≡◌, ℕ, suc, ◌+◌, ◌<◌, ◌≤◌, ◌⊎◌, true, List, [], ◌∷◌, ◌++◌, map, length, Ok, Err, Result, sym, ap, ◌∙◌, subst, ap₂, inl, inr, add-one, arith}
+use Rattle.std.proofs.Common.{◌≡◌, ℕ, suc, ◌+◌, ◌<◌, true, List, [], ◌∷◌, ◌++◌, map, length, Ok, Result, sym, ap, ◌∙◌, subst, ap₂, add-one, arith}
 use Rattle.std.proofs.lemmas.Bool.{cases_lt}
 use Rattle.std.proofs.lemmas.List.{get_or_past}
 use Rattle.std.proofs.lemmas.List.FromFn.{map-range_with_len_more}
 use Rattle.std.specs.List.{range_with_len}
 use Rattle.serial.specs.declared.event.Event.{Event}
-use Rattle.serial.specs.declared.event.Event.TheVariants.{ReceivedBit}
 use Rattle.serial.specs.declared.event.Refusal.{Refusal}
 use Rattle.serial.specs.declared.slip.Reply.{Reply}
 use Rattle.serial.specs.declared.slip.Standing.{Standing}
 use Rattle.ssda.specs.declared.state.State.{State}
 use Rattle.ssda.specs.Front.{checked_by}
-use Rattle.ssda.specs.Perform.{replied}
 use Rattle.ssda.specs.State.{conditions_of, interrupt_of, status_of}
 use Rattle.ssda.specs.Stepped.{stepped, stepped_by, answered, answered_by, standing_in}
 use Rattle.history.specs.Events.{bit_at, reads}
@@ -20,7 +18,6 @@ use Rattle.history.specs.Law.{Answer, history, Lawful}
 use Rattle.history.specs.Answering.{WritesByte, WritesBytes, state_at, answer_at, answers_to, standing_after, timing_for, InterruptShown, LinesTied}
 use Rattle.history.proofs.OnePhase.{receiver_at}
 use Rattle.history.proofs.OneState.{transmitter_is}
-use Rattle.history.proofs.Small.{ok_err}
 use Rattle.history.proofs.TiedReceiver.{heard}
 use Rattle.history.proofs.TiedTransmitter.{timed}
 use Rattle.history.proofs.Whole.{bit_seven, status_value, every_history_lawful}
@@ -39,11 +36,7 @@ module _ (es : List Event) (k : ℕ) (e : Event) (s : State) (here : e ≡ histo
 
 -- where each event passed writes a byte, so does every event of the history: past the end nothing is written
 pub bytes_of : (es : List Event) (k : ℕ) → length es ≡ k → ((i : ℕ) → i < k → WritesByte (history es i)) → WritesBytes (history es)
-bytes_of es k end passed i = go (cases_lt i k)
-  where
-    go : (i < k) ⊎ (k ≤ i) → WritesByte (history es i)
-    go (inl h) = passed i h
-    go (inr h) = subst WritesByte (sym (get_or_past es i (ReceivedBit 2) (omega (arith, h, end)))) tt
+bytes_of es k end passed i = grind (arith, cases_lt, get_or_past)
 
 -- all events passed
 pub all_answered : (es : List Event) (bytes : WritesBytes (history es)) (k : ℕ) (s : State) (xs : List Answer) → length es ≡ k → s ≡ state_at (history es) k → xs ≡ map (answer_at (history es)) (range_with_len 0 k) → (xs ≡ answers_to es) × ((q : Standing) → q ≡ standing_in s → (q ≡ standing_after es) × Lawful es xs q)
@@ -60,13 +53,11 @@ all_answered es bytes k s xs end holds so_far =
 
 -- an accepted event's reply has the interrupt of the state after it
 reply_interrupt : (c : Result (Unit {0}) Refusal) (s : State) (e : Event) (r : Reply) → answered_by c s e ≡ Ok r → r.interrupt ≡ interrupt_of (stepped_by c s e)
-reply_interrupt (Ok x) s e r h = let i : replied s e ≡ r = cc in sym (ap (λ r. r.interrupt) i)
-reply_interrupt (Err q) s e r h = ok_err r q (sym h)
+reply_interrupt c s e r h = grind arith
 
 -- a Status read's reply has the Status byte of the state before it
 reply_status : (c : Result (Unit {0}) Refusal) (s : State) (e : Event) (r : Reply) → reads 0 e ≡ true → answered_by c s e ≡ Ok r → r.value ≡ status_of s
-reply_status (Ok x) s e r h i = let j : replied s e ≡ r = cc in sym (ap (λ r. r.value) j) ∙ status_value s e h
-reply_status (Err q) s e r h i = ok_err r q (sym i)
+reply_status c s e r h i = grind (arith, status_value)
 
 pub interrupt_shown_lem : InterruptShown
 interrupt_shown_lem E k r q a h b =

@@ -1,10 +1,8 @@
 -- Resets of the receiver and of the transmitter, computed, and the events that bring no reset and no cut. Assumes nothing.
-use Rattle.std.proofs.Common.{◌≡◌, ℕ, suc, Bool, true, false, not, ◌&&◌, ◌||◌, ◌⊎◌, Some, None, Option, sym, ap, ◌∙◌, inl, inr}
-use Rattle.std.proofs.lemmas.Bool.{not-true, not_from_false, and_parts, and_from, or_cases, or_right}
+use Rattle.std.proofs.Common.{◌≡◌, ℕ, suc, Bool, true, false, not, ◌&&◌, ◌||◌, ◌⊎◌, Some, None, Option, inl, inr, arith}
 use Rattle.history.specs.Events.{writes, level_for}
-use Rattle.history.specs.Settings.{History, or_else, bit_of, to_c1, reset, cts, Rises, Falls, ResetsReceiver, by_rx_rs, by_reset, ResetsTransmitter, by_tx_rs, Cuts, by_tx_reset, by_cts}
+use Rattle.history.specs.Settings.{History, bit_of, to_c1, reset, cts, Rises, Falls, ResetsReceiver, by_rx_rs, by_reset, ResetsTransmitter, by_tx_rs, Cuts, by_tx_reset, by_cts}
 use Rattle.history.proofs.Apart.{Calm}
-use Rattle.history.proofs.Small.{false_true, none_some}
 
 -- RESETS, COMPUTED
 
@@ -14,8 +12,7 @@ is_true None = false
 is_true (Some b) = b
 
 is_true_lem : (o : Option Bool) → is_true o ≡ true → o ≡ Some true
-is_true_lem None h = false_true h
-is_true_lem (Some b) h = ap Some h
+is_true_lem o h = grind arith
 
 -- bit i of C1 is written as 1, or RESET falls
 abbrev pub resets_by : ℕ → History → ℕ → Bool
@@ -27,27 +24,20 @@ module _ (E : History) (k : ℕ) where
 
   -- computed and back, for either bit
   resets_to : (i : ℕ) → Resets i → resets_by i E k ≡ true
-  resets_to i (inl h) = ap (λ o. is_true o || (reset E k && not (reset E (suc k)))) h
-  resets_to i (inr h) = or_right _ _ (and_from _ _ h.0 (not_from_false _ h.1))
+  resets_to i x = grind arith
 
   resets_from : (i : ℕ) → resets_by i E k ≡ true → Resets i
-  resets_from i h = go (or_cases _ _ h)
-    where
-      go : (is_true (bit_of i (to_c1 E k)) ≡ true) ⊎ ((reset E k && not (reset E (suc k))) ≡ true) → Resets i
-      go (inl x) = inl (is_true_lem _ x)
-      go (inr x) = let p = and_parts _ _ x in inr (p.0, not-true _ p.1)
+  resets_from i h = grind (arith, is_true_lem (bit_of i (to_c1 E k)))
 
   -- so a reset of the receiver, with bit 0, and of the transmitter, with bit 1
   pub rx_to : ResetsReceiver E k → resets_by 0 E k ≡ true
-  rx_to (by_rx_rs h) = resets_to 0 (inl h)
-  rx_to (by_reset h) = resets_to 0 (inr h)
+  rx_to r = grind (arith, resets_to)
 
   pub rx_from : resets_by 0 E k ≡ true → ResetsReceiver E k
   rx_from h = elim (resets_from 0 h) [ inl x ↦ by_rx_rs x | inr x ↦ by_reset x ]
 
   pub tx_to : ResetsTransmitter E k → resets_by 1 E k ≡ true
-  tx_to (by_tx_rs h) = resets_to 1 (inl h)
-  tx_to (by_reset h) = resets_to 1 (inr h)
+  tx_to r = grind (arith, resets_to)
 
   pub tx_from : resets_by 1 E k ≡ true → ResetsTransmitter E k
   tx_from h = elim (resets_from 1 h) [ inl x ↦ by_tx_rs x | inr x ↦ by_reset x ]
@@ -56,16 +46,16 @@ module _ (E : History) (k : ℕ) where
 
   -- RESET falls, and CTS rises, only where its level is set, and to another one
   pub no_fall : level_for 0 (E k) ≡ None → Falls (reset E) k → ⊥
-  no_fall h f = false_true (sym f.1 ∙ ap (λ o. or_else o (reset E k)) h ∙ f.0)
+  no_fall h f = grind arith
 
   pub no_fall_to : (b : Bool) → level_for 0 (E k) ≡ Some b → (b ≡ false → reset E k ≡ false) → Falls (reset E) k → ⊥
-  no_fall_to b h i f = false_true (sym (i (sym (ap (λ o. or_else o (reset E k)) h) ∙ f.1)) ∙ f.0)
+  no_fall_to b h i f = grind arith
 
   pub no_rise : level_for 1 (E k) ≡ None → Rises (cts E) k → ⊥
-  no_rise h f = false_true (sym f.0 ∙ sym (ap (λ o. or_else o (cts E k)) h) ∙ f.1)
+  no_rise h f = grind arith
 
   pub no_rise_to : (b : Bool) → level_for 1 (E k) ≡ Some b → (b ≡ true → cts E k ≡ true) → Rises (cts E) k → ⊥
-  no_rise_to b h i f = false_true (sym f.0 ∙ i (sym (ap (λ o. or_else o (cts E k)) h) ∙ f.1))
+  no_rise_to b h i f = grind arith
 
   -- no reset, by both ways; no cut
   pub no_rx : (bit_of 0 (to_c1 E k) ≡ Some true → ⊥) → (Falls (reset E) k → ⊥) → ResetsReceiver E k → ⊥
@@ -82,7 +72,7 @@ module _ (E : History) (k : ℕ) where
 
   -- where nothing is written to C1, no bit of it is
   no_c1_bit : (i : ℕ) → writes 0 (E k) ≡ None → bit_of i (to_c1 E k) ≡ Some true → ⊥
-  no_c1_bit i h e = none_some true (sym (ap (bit_of i) h) ∙ e)
+  no_c1_bit i h e = grind arith
 
   -- where nothing is written to C1 and RESET is not set, nothing is reset
   pub unset_rx : writes 0 (E k) ≡ None → level_for 0 (E k) ≡ None → ResetsReceiver E k → ⊥

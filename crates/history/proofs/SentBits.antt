@@ -1,5 +1,6 @@
 -- The bits of a sent byte are shown on successive transmit clocks, and the answers to these clocks are its word. Assumes nothing.
 use Rattle.std.proofs.Common.{◌≡◌, ℕ, zero, suc, ◌+◌, ◌<◌, ◌≤◌, true, ◌↔◌, List, length, get_or, Ok, Err, sym, ap, ◌∙◌, subst, inl, arith}
+use Rattle.std.proofs.lemmas.Bool.{false≢true}
 use native.Mathlib.Decide.{dec_lt, dec_le}
 use Rattle.std.proofs.lemmas.List.{get_or_past}
 use Rattle.serial.specs.declared.event.Event.{Event}
@@ -17,7 +18,6 @@ use Rattle.history.specs.Lines.{T, written, Writes, showing, Transmitter}
 use Rattle.history.specs.Law.{Answer, Declined, transmitting, LoadsByte, Shifts, Shown, a_bit, last_bit, Does, shows_a_bit, shows_the_last, Ended, was_sent, sent, ShowsOf, SentAs, history, answer, Truthful}
 use Rattle.history.proofs.Declining.{declined_does}
 use Rattle.history.proofs.Showing.{Came, by_load, as_before, by_clock, came, none_shown, earlier, word, same_word, shifted}
-use Rattle.history.proofs.Small.{false_true, neither_first}
 use Rattle.history.proofs.ToldOnce.{accepted, only_named}
 use Rattle.history.proofs.Transmitting.{transmit_act, transmitting_sane}
 use Rattle.history.proofs.WrittenFates.{loaded_number}
@@ -38,25 +38,17 @@ module _ (E : History) where
       go : Dec (k < m) → Came E m l j → ((o : ℕ) → k < m → Transmitter E m (showing l o) → i < o) → i < j
       go d (by_load y e z) ih = absurd (omega (arith, earlier E k l i x.0))
       go (yes g) (as_before s c) ih = ih j g s
-      go (no g) (as_before s c) ih = false_true (sym c ∙ here (λ y. clocks (E y) ≡ true) (omega arith) x.1)
+      go (no g) (as_before s c) ih = absurd (false≢true (sym c ∙ here (λ y. clocks (E y) ≡ true) (omega arith) x.1))
       go (yes g) (by_clock o s c e) ih = omega (arith, ih o g s)
       go (no g) (by_clock o s c e) ih = omega (arith, (same_word E m l i l o (here (λ y. Transmitter E y (showing l i)) (omega arith) x.0) s).1)
 
   -- each bit has one clock
   one_clock : (k m l j : ℕ) → ShowsBit l j k → ShowsBit l j m → k ≡ m
-  one_clock k m l j x y = neither_first k m (λ h. omega (arith, later k m l j j h x y.0)) (λ h. omega (arith, later m k l j j h y x.0))
+  one_clock k m l j x y = grind (arith, later k m l j j, later m k l j j)
 
   -- an earlier bit was shown by an earlier clock
   in_turn : (k m l i j : ℕ) → i < j → ShowsBit l i k → ShowsBit l j m → k < m
-  in_turn k m l i j h x y = go (dec_lt k m) (dec_lt m k)
-    where
-      go : Dec (k < m) → Dec (m < k) → k < m
-      go (yes g) d = g
-      go (no g) (yes f) = absurd (omega (arith, later m k l j i f y x.0))
-      go (no g) (no f) =
-          let e : k ≡ m = omega arith in
-          let P : ℕ → Type 0 = λ y. Transmitter E y (showing l i) in
-          absurd (omega (arith, (same_word E m l i l j (subst P e x.0) y.0).1))
+  in_turn k m l i j h x y = grind (arith, later k m l j i, later m k l j i, same_word E m l i l j)
 
   -- each bit that was shown had its clock
   had_clock : (k l i j : ℕ) → i < j → Transmitter E k (showing l j) → (m : ℕ) × ShowsBit l i m
@@ -88,7 +80,7 @@ module _ (E : History) where
 
   -- a byte is loaded once
   load_once : (l m n : ℕ) → LoadsByte E l n → LoadsByte E m n → l ≡ m
-  load_once l m n x y = neither_first l m (apart l m x y) (apart m l y x)
+  load_once l m n x y = let a = apart l m x y in let b = apart m l y x in omega arith
     where
       apart : (l m : ℕ) → LoadsByte E l n → LoadsByte E m n → l < m → ⊥
       apart l m x y h = places.gone (transmitting E) (transmit_act E) (written E) (transmitting_sane E) l m n 3 Taken (was_taken x.1 x.0) h y.1
@@ -116,11 +108,7 @@ module _ (E : History) where
 
 -- past the end of the list there is no clock
 clock_within : (events : List Event) (k : ℕ) → clocks (history events k) ≡ true → k < length events
-clock_within events k c = go (dec_lt k (length events))
-  where
-    go : Dec (k < length events) → k < length events
-    go (yes h) = h
-    go (no h) = false_true (sym (ap clocks (get_or_past events k (ReceivedBit 2) (omega arith))) ∙ c)
+clock_within events k c = grind (arith, get_or_past events k (ReceivedBit 2))
 
 module _ (events : List Event) (answers : List Answer)
     (refused : (k : ℕ) → k < length events → (r : Refusal) → (answer answers k ≡ Err r) ↔ Declined (history events) k r)

@@ -12,9 +12,6 @@ IsShowing still = ⊥
 IsShowing starting = ⊥
 IsShowing (showing l j) = Unit {0}
 
-not_showing : {A : Type 0} (s : Sending) (l j : ℕ) → (IsShowing s → ⊥) → showing l j ≡ s → A
-not_showing s l j f e = absurd (f (subst IsShowing e tt))
-
 module _ (E : History) where
   -- the three ways in which j bits of the word of load l come to be shown by event k
   pub data Came (k l j : ℕ) : Type 0 where
@@ -23,8 +20,8 @@ module _ (E : History) where
     by_clock : (i : ℕ) → Transmitter E k (showing l i) → clocks (E k) ≡ true → j ≡ suc i → Came k l j
 
   pub came : (k l j : ℕ) → Transmitter E (suc k) (showing l j) → Came k l j
-  came k l j (holds h e) = not_showing still l j (λ x. x) e
-  came k l j (released h i e) = not_showing starting l j (λ x. x) e
+  came k l j (holds h e) = cc
+  came k l j (released h i e) = cc
   came k l j (untouched s h i c) = as_before s c
   came k l j (loaded x e) = by_load x (cc) (cc)
   came k l j (shown m i s c h e) =
@@ -34,7 +31,7 @@ module _ (E : History) where
 
   -- at first none is shown
   pub none_shown : {A : Type 0} (l j : ℕ) → Transmitter E 0 (showing l j) → A
-  none_shown l j h = not_showing still l j (λ x. x) h
+  none_shown l j h = cc
 
   -- a word is shown after its load
   pub earlier : (k l j : ℕ) → Transmitter E k (showing l j) → l < k
@@ -56,7 +53,7 @@ module _ (E : History) where
 
   -- and none while the transmitter is held or starts
   pub no_word : {A : Type 0} (k l j : ℕ) (s : Sending) → (IsShowing s → ⊥) → Transmitter E k s → Transmitter E k (showing l j) → A
-  no_word k l j s f h t = not_showing s l j f (transmitter_is E k _ t ∙ sym (transmitter_is E k _ h))
+  no_word k l j s f h t = absurd (f (subst IsShowing (transmitter_is E k _ t ∙ sym (transmitter_is E k _ h)) tt))
 
   -- what is done by a clock or a cut is done to the byte that is being shifted
   pub shifted : (k n : ℕ) (s : Shown) → Does E k n s → (l j : ℕ) × Shifts E k n l j

@@ -1,5 +1,5 @@
 -- The adapter's settings are those of the history, at every moment. Assumes nothing.
-use Rattle.std.proofs.Common.{◌≡◌, ℕ, zero, suc, Bool, true, false, cond, ◌||◌, eqb, Some, None, Option, sym, refl, ap, ◌∙◌, subst, arith}
+use Rattle.std.proofs.Common.{◌≡◌, ℕ, zero, suc, Bool, true, false, ◌||◌, eqb, Option, sym, refl, ap, ◌∙◌, subst, arith}
 use Rattle.std.proofs.lemmas.Bool.{lt-ltb, le-ltb, le-leb}
 use Rattle.serial.specs.declared.event.Event.{Event}
 use Rattle.ssda.specs.declared.front.Front.{Front}
@@ -7,7 +7,7 @@ use Rattle.ssda.specs.declared.receiver.Character.{Character}
 use Rattle.ssda.specs.declared.state.State.{State}
 use Rattle.ssda.specs.Control as reg
 use Rattle.ssda.specs.Front.{off_of, framed_front, heard_front, strips_of, wrote_c1}
-use Rattle.ssda.specs.Step.{with_front, with_character, taken, took_in, both_resets, c1_was_written}
+use Rattle.ssda.specs.Step.{with_front, taken, took_in, both_resets, c1_was_written}
 use Rattle.ssda.specs.Stepped.{stepped}
 use Rattle.history.specs.Settings.{History, reset, cts, off, form}
 use Rattle.history.specs.Lines.{written}
@@ -20,27 +20,21 @@ use Rattle.history.proofs.Views.{view_of, view_at, next_view, view_next, Low, lo
 
 -- resets leave the front
 resets_front : (x y : Bool) (s : State) → (both_resets x y s).front ≡ s.front
-resets_front true true s = refl
-resets_front true false s = refl
-resets_front false true s = refl
-resets_front false false s = refl
+resets_front x y s = grind arith
 
 pub c1_front : (s : State) (b : ℕ) → (c1_was_written s b).front ≡ wrote_c1 s.front b
 c1_front s b = ap (λ f. wrote_c1 f b) (resets_front (reg.bit_of 0 b) (reg.bit_of 1 b) s)
 
 -- what a character does leaves the front
 taken_front : (s : State) (o : Option Character) (t : Bool) → strips_of s.front ≡ t → (taken s o).front ≡ s.front
-taken_front s None t e = refl
-taken_front s (Some c) true e = ap (λ b. (cond b s (with_character s c)).front) e
-taken_front s (Some c) false e = ap (λ b. (cond b s (with_character s c)).front) e
+taken_front s o t e = grind arith
 
 pub bit_front : (s : State) (b : ℕ) → (took_in s b).front ≡ heard_front s.front b
 bit_front s b = taken_front (with_front s (heard_front s.front b)) (framed_front s.front b) _ refl
 
 -- a received bit leaves the settings
 pub heard_view : (f : Front) (b : ℕ) (t : Bool) → off_of f ≡ t → view_of (heard_front f b) ≡ view_of f
-heard_view f b true e = simp e
-heard_view f b false e = simp e
+heard_view f b t e = grind arith
 
 -- THE SETTINGS
 

@@ -1,30 +1,27 @@
 -- The adapter's receiver is in the phase, with the count and the last bits, that the rules of framing give. Assumes nothing.
-use Rattle.std.proofs.Common.{◌≡◌, ℕ, zero, suc, ◌+◌, ◌-◌, ◌*◌, ◌/◌, ◌^◌, ◌<◌, ◌≤◌, Bool, true, false, cond, not, ◌&&◌, ◌||◌, ltb, leb, List, Some, None, Option, sym, refl, ap, ◌∙◌, subst, arith}
+use Rattle.std.proofs.Common.{◌≡◌, ℕ, zero, suc, ◌+◌, ◌-◌, ◌*◌, ◌/◌, ◌^◌, ◌<◌, ◌≤◌, Bool, true, false, cond, not, ◌&&◌, ◌||◌, List, Some, None, Option, sym, refl, ap, ◌∙◌, subst, arith}
+use Rattle.std.proofs.lemmas.Bool.Decides.{nat_tests}
 use mathlib.Core.Bool.{beq}
-use Rattle.std.proofs.lemmas.Bool.{lt-ltb, le-ltb, le-leb, leb-true, leb-false}
+use Rattle.std.proofs.lemmas.Bool.{le-leb}
 use Rattle.serial.specs.declared.event.Event.{Event}
 use Rattle.serial.specs.declared.event.Event.TheVariants.{ReceivedBit}
 use Rattle.serial.specs.declared.word.Form.{Form}
 use Rattle.serial.specs.Words.{total_bits, bits_of, matches}
 use Rattle.ssda.specs.declared.front.Front.{Front}
-use Rattle.ssda.specs.declared.receiver.LineEvent.TheVariants.{Bit}
-use Rattle.ssda.specs.declared.receiver.Phase.TheVariants.{Search, Second, InSync}
-use Rattle.ssda.specs.declared.receiver.Phase as chip
 use Rattle.ssda.specs.declared.receiver.Receiver.{Receiver}
 use Rattle.ssda.specs.declared.state.State.{State}
 use Rattle.ssda.specs.Control.{control_from, from_c3, control_under_reset, setup_under_reset}
-use Rattle.ssda.specs.Front.{off_of, heard_front, settled_front, with_receiver, with_control, with_setup, with_pins, pins_of}
+use Rattle.ssda.specs.Front.{off_of, heard_front, settled_front, with_control, with_setup, with_pins, pins_of}
 use Rattle.ssda.specs.Receiver as rcv
 use Rattle.history.specs.Events.{received}
-use Rattle.history.specs.Settings.{History, off, form, sync_code}
-use Rattle.history.specs.Lines.{limit, T, Phase, searching, one_sync_seen, in_sync, first, restarts, last_bits, Match}
+use Rattle.history.specs.Settings.{History, off, form}
+use Rattle.history.specs.Lines.{limit, T, Phase, first, restarts, last_bits, Match}
 use Rattle.history.specs.Answering.{WritesBytes, state_at, phase_of}
 use Rattle.history.proofs.Apart.{calm_bit, inert}
 use Rattle.history.proofs.Calm.{no_restart}
 use Rattle.history.proofs.Cases.{Outcome, Cases, by_cases}
 use Rattle.history.proofs.Computed.{fed, takes, next_phase, phase_at}
 use Rattle.history.proofs.Receiving.{count, receiving_sane}
-use Rattle.history.proofs.Small.{beq_same, cond_same, no_change}
 use Rattle.history.proofs.Tied.{tied, off_now, form_now, c1_front, bit_front, heard_view}
 use Rattle.history.proofs.Views.{View, view_of, view_at}
 use Rattle.history.proofs.Window.{window, window_first, window_ones, window_off, window_none, window_slides, window_word}
@@ -65,90 +62,34 @@ window_next E k = go (restarts E k) refl (off E k) refl (received (E k)) refl
 
 -- where no setting changes and no bit comes, the phase and the last bits stay
 still : (v : View) (m : Bool) (x : Phase × ℕ) → next_seen v v None m x ≡ x
-still v m x = ap (λ t. cond t (first v.external, x.1) x) (no_change (off_in v) v.external)
+still v m x = grind arith
 
 still_window : (v : View) (x : ℕ) → next_window v v None x ≡ x
-still_window v x = ap (λ t. cond t 511 (cond (off_in v) x x)) (no_change (off_in v) v.external) ∙ cond_same (off_in v) x
+still_window v x = grind arith
 
--- a new setting
-beq_swap : (a b : Bool) → beq a b ≡ beq b a
-beq_swap true true = refl
-beq_swap true false = refl
-beq_swap false true = refl
-beq_swap false false = refl
-
--- the chip's phase and last bits after new settings
-settled_as : (r : Receiver) (was is changed external : Bool)
-    → (seen_of (rcv.settled r was is changed external) ≡ cond (not is && (was || changed)) (first external, r.framed) (seen_of r))
-    × ((rcv.settled r was is changed external).window ≡ cond (not is && (was || changed)) 511 r.window)
-settled_as r was true changed external = (refl, refl)
-settled_as r true false changed true = (refl, refl)
-settled_as r true false changed false = (refl, refl)
-settled_as r false false true true = (refl, refl)
-settled_as r false false true false = (refl, refl)
-settled_as r false false false external = (refl, refl)
-
--- so after new settings, without a bit, both are as the rules say
+-- after new settings, without a bit, both are as the rules say
 module _ (f g : Front) (same : g.receiver ≡ f.receiver) where
   settle_seen : (m : Bool) → seen_of (settled_front f g).receiver ≡ next_seen (view_of f) (view_of g) None m (seen_of f.receiver)
-  settle_seen m =
-      (settled_as g.receiver (off_of f) (off_of g) _ g.setup.external).0
-      ∙ ap (λ b. cond (not (off_of g) && (off_of f || not b)) (first g.setup.external, g.receiver.framed) (seen_of g.receiver)) (beq_swap g.setup.external f.setup.external)
-      ∙ ap (λ r. cond (restarts_by (view_of f) (view_of g)) (first g.setup.external, r.framed) (seen_of r)) same
+  settle_seen m = grind arith
 
   settle_window : (settled_front f g).receiver.window ≡ next_window (view_of f) (view_of g) None f.receiver.window
-  settle_window =
-      (settled_as g.receiver (off_of f) (off_of g) _ g.setup.external).1
-      ∙ ap (λ b. cond (not (off_of g) && (off_of f || not b)) 511 g.receiver.window) (beq_swap g.setup.external f.setup.external)
-      ∙ ap (λ r. cond (restarts_by (view_of f) (view_of g)) 511 r.window) same
-      ∙ sym (ap (λ x. cond (restarts_by (view_of f) (view_of g)) 511 x) (cond_same (off_of f) f.receiver.window))
-
--- a bit that is heard
-fed_seen : (p : chip.Phase) (count n t : ℕ) (m one ends : Bool) → ltb (count + 1) t ≡ not ends → (phase_of (rcv.turn_of p (Bit ends) m one count).phase (rcv.turn_of p (Bit ends) m one count).count, n + cond (rcv.turn_of p (Bit ends) m one count).framed 1 0) ≡ fed (phase_of p count) n m one t
-fed_seen Search count n t false one ends e = ap (λ x. (searching, x)) (omega arith)
-fed_seen Search count n t true true ends e = ap (λ x. (in_sync 0, x)) (omega arith)
-fed_seen Search count n t true false ends e = ap (λ x. (one_sync_seen 0, x)) (omega arith)
-fed_seen Second count n t m one false e = ap (λ x. (one_sync_seen (count + 1), x)) (omega arith) ∙ ap (λ b. (cond b (one_sync_seen (count + 1)) (cond m (in_sync 0) searching), n)) (sym e)
-fed_seen Second count n t true one true e = ap (λ x. (in_sync 0, x)) (omega arith) ∙ ap (λ b. (cond b (one_sync_seen (count + 1)) (in_sync 0), n)) (sym e)
-fed_seen Second count n t false one true e = ap (λ x. (searching, x)) (omega arith) ∙ ap (λ b. (cond b (one_sync_seen (count + 1)) searching, n)) (sym e)
-fed_seen InSync count n t m one false e = ap (λ x. (in_sync (count + 1), x)) (omega arith) ∙ ap (λ b. cond b (in_sync (count + 1), n) (in_sync 0, n + 1)) (sym e)
-fed_seen InSync count n t m one true e = ap (λ b. cond b (in_sync (count + 1), n) (in_sync 0, n + 1)) (sym e)
-
--- the next bit is not the last of a character, or it ends one
-pub ends_or_not : (count t : ℕ) → ltb (count + 1) t ≡ not (leb t (count + 1))
-ends_or_not count t = go (leb t (count + 1)) refl
-  where
-    go : (b : Bool) → leb t (count + 1) ≡ b → ltb (count + 1) t ≡ not b
-    go true e = le-ltb _ _ (leb-true _ _ e)
-    go false e = lt-ltb _ _ (leb-false _ _ e)
+  settle_window = grind arith
 
 -- the match that the chip finds at bit b
 abbrev pub match_of : Front → ℕ → Bool
 match_of f b = matches f.setup.form f.code (rcv.last_bits f.receiver b f.setup.form)
 
+-- a bit that is heard
 module _ (f : Front) (b : ℕ) (room : f.receiver.framed < limit) where
   bit_seen : (m : Bool) → (off_of f ≡ false → m ≡ match_of f b) → (o : Bool) → off_of f ≡ o → seen_of (heard_front f b).receiver ≡ next_seen (view_of f) (view_of f) (Some b) m (seen_of f.receiver)
-  bit_seen m same true e = simp e
-  bit_seen m same false e =
-      let r = f.receiver in
-      let v = view_of f in
-      let h = rcv.heard r b f.setup.form f.code f.setup.one_sync in
-      let fed_to = fed (phase_of r.phase r.count) r.framed m f.setup.one_sync (total_bits f.setup.form) in
-      ap (λ t. seen_of (cond t f (with_receiver f h)).receiver) e
-      ∙ fed_seen r.phase r.count r.framed (total_bits f.setup.form) (match_of f b) f.setup.one_sync _ (ends_or_not r.count (total_bits f.setup.form))
-      ∙ ap (λ m. fed (phase_of r.phase r.count) r.framed m f.setup.one_sync (total_bits f.setup.form)) (sym (same e))
-      ∙ sym (ap (λ t. cond t (first v.external, r.framed) (cond (takes (Some b) (off_in v) r.framed) fed_to (seen_of r))) (no_change (off_in v) v.external)
-      ∙ ap (λ o. cond (not o && ltb r.framed limit) fed_to (seen_of r)) e
-      ∙ ap (λ t. cond t fed_to (seen_of r)) (lt-ltb _ _ room))
+  bit_seen m same o e = grind (arith, nat_tests)
 
   bit_window : (o : Bool) → off_of f ≡ o → (heard_front f b).receiver.window ≡ next_window (view_of f) (view_of f) (Some b) f.receiver.window
-  bit_window true e = simp e
-  bit_window false e = simp (e, beq_same)
+  bit_window o e = grind arith
 
 -- a bit that is declined, since all numbers are used up
 full_seen : (f : Front) (b : ℕ) → limit ≤ f.receiver.framed → (m : Bool) (o : Bool) → off_of f ≡ o → seen_of f.receiver ≡ next_seen (view_of f) (view_of f) (Some b) m (seen_of f.receiver)
-full_seen f b full m true e = simp e
-full_seen f b full m false e = simp (e, beq_same, le-ltb f.receiver.framed limit full)
+full_seen f b full m o e = grind (arith, nat_tests)
 
 module _ (s : State) where
   abbrev f : Front
@@ -264,10 +205,7 @@ module _ (E : History) (bytes : WritesBytes E) (k : ℕ) (t : Heard E k (state_a
 
   -- and finds the match that they find
   pub match_of_lem : (b : ℕ) → received (E k) ≡ Some b → s.front.receiver.framed < limit → off_of s.front ≡ false → Match E k ≡ match_of s.front b
-  match_of_lem b came room on =
-      sym (ap (λ F. matches F s.front.code (rcv.last_bits s.front.receiver b s.front.setup.form)) (form_now E bytes k)
-      ∙ ap (λ C. matches (form E k) C (rcv.last_bits s.front.receiver b s.front.setup.form)) (ap (λ v. v.code) (tied E bytes k))
-      ∙ ap (matches (form E k) (sync_code E k)) (last_of b came room on))
+  match_of_lem b came room on = grind (arith, form_now, tied, last_of)
 
 -- one event further
 module _ (E : History) (bytes : WritesBytes E) (k : ℕ) (t : Heard E k (state_at E k).front.receiver) where

@@ -1,23 +1,22 @@
 -- The adapter's transmitter is held, starts or shows a word as the rules of sending say. Assumes nothing.
-use Rattle.std.proofs.Common.{◌≡◌, ℕ, zero, suc, ◌+◌, ◌-◌, ◌<◌, Bool, true, false, cond, ◌||◌, ltb, sym, refl, ap, ◌∙◌, subst, arith}
-use Rattle.std.proofs.lemmas.Bool.{ltb-true, ltb-false, le-leb, lt-leb}
+use Rattle.std.proofs.Common.{◌≡◌, ℕ, zero, suc, Bool, true, false, cond, ◌||◌, sym, refl, ap, ◌∙◌, subst, arith}
+use Rattle.std.proofs.lemmas.Bool.Decides.{nat_tests}
 use Rattle.serial.specs.declared.event.Event.{Event}
 use Rattle.serial.specs.Words.{total_bits}
 use Rattle.ssda.specs.declared.front.Front.{Front}
 use Rattle.ssda.specs.declared.state.State.{State}
 use Rattle.ssda.specs.declared.transmitter.Timing.{Timing}
-use Rattle.ssda.specs.declared.transmitter.Timing.TheVariants.{Held, Starting, Showing}
+use Rattle.ssda.specs.declared.transmitter.Timing.TheVariants.{Held, Starting}
 use Rattle.ssda.specs.Front.{off_of, held_of, heard_front}
 use Rattle.ssda.specs.Transmitter.{ticked}
 use Rattle.history.specs.Events.{clocks}
 use Rattle.history.specs.Settings.{History, held}
-use Rattle.history.specs.Lines.{T, Sending, still, starting, showing}
+use Rattle.history.specs.Lines.{T, Sending}
 use Rattle.history.specs.Answering.{WritesBytes, state_at, timing_for}
 use Rattle.history.proofs.Apart.{inert}
 use Rattle.history.proofs.Cases.{Outcome, Cases, by_cases}
 use Rattle.history.proofs.Computed.{clocked, next_sending, sending_at}
 use Rattle.history.proofs.OneState.{Good, good_at}
-use Rattle.history.proofs.Small.{false_true}
 use Rattle.history.proofs.Tied.{tied, c1_front, bit_front, heard_view}
 use Rattle.history.proofs.Views.{View, view_of, view_at}
 
@@ -32,42 +31,22 @@ next_timing v w c t = cond (held_in w) Held (cond (held_in v) Starting (cond c (
 
 -- a clock, in the law and in the chip
 module _ (E : History) (k : ℕ) where
-  word_ticked : (l j : ℕ) → j < T E l → (b : Bool) → ltb (j + 1) (T E l) ≡ b → timing_for E (cond b (showing l (j + 1)) (showing k 0)) ≡ ticked (Showing (T E l - j)) (T E k)
-  word_ticked l j h true e =
-      let i = ltb-true _ _ e in
-      ap Showing (omega (arith, i)) ∙ sym (ap (λ b. cond b (Showing (T E k)) (Showing (T E l - j - 1))) (lt-leb (T E l - j) 1 (omega (arith, i))))
-  word_ticked l j h false e =
-      let i = ltb-false _ _ e in
-      ap Showing (omega arith) ∙ sym (ap (λ b. cond b (Showing (T E k)) (Showing (T E l - j - 1))) (le-leb (T E l - j) 1 (omega (arith, i, h))))
-
-  -- from each state
   clock_ticked : (s : Sending) → Good E k s → timing_for E (clocked E k s) ≡ ticked (timing_for E s) (T E k)
-  clock_ticked still g = refl
-  clock_ticked starting g = ap Showing (omega arith)
-  clock_ticked (showing l j) g = word_ticked l j g.1 (ltb (j + 1) (T E l)) refl
+  clock_ticked s g = grind (arith, nat_tests)
 
   -- one event further
   sending_next : (s : Sending) → Good E k s → timing_for E (next_sending E k s) ≡ next_timing (view_at E k) (view_at E (suc k)) (clocks (E k)) (timing_for E s)
-  sending_next s g = go (held E (suc k)) (held E k) (clocks (E k))
-    where
-      go : (a b c : Bool) → timing_for E (cond a still (cond b starting (cond c (clocked E k s) s))) ≡ cond a Held (cond b Starting (cond c (ticked (timing_for E s) (T E k)) (timing_for E s)))
-      go true b c = refl
-      go false true c = refl
-      go false false true = clock_ticked s g
-      go false false false = refl
+  sending_next s g = grind (arith, clock_ticked s g)
 
   -- while the transmitter is held it is still
   held_still : (s : Sending) → Good E k s → held E k ≡ true → timing_for E s ≡ Held
-  held_still still g h = refl
-  held_still starting g h = false_true (sym g ∙ h)
-  held_still (showing l j) g h = false_true (sym g.0 ∙ h)
+  held_still s g h = grind arith
 
 -- EACH EVENT
 
 -- a received bit leaves the timing
 heard_timing : (f : Front) (b : ℕ) (t : Bool) → off_of f ≡ t → (heard_front f b).timing ≡ f.timing
-heard_timing f b true e = simp e
-heard_timing f b false e = simp e
+heard_timing f b t e = grind arith
 
 module _ (s : State) (holds : held_of s.front ≡ true → s.front.timing ≡ Held) where
   abbrev f : Front
@@ -83,18 +62,10 @@ module _ (s : State) (holds : held_of s.front ≡ true → s.front.timing ≡ He
 
   -- without a clock, and with one, where no setting changes
   same_timed : TimedAs f
-  same_timed = go (held_of f) refl
-    where
-      go : (h : Bool) → held_of f ≡ h → f.timing ≡ cond h Held (cond h Starting f.timing)
-      go true e = holds e
-      go false e = refl
+  same_timed = grind arith
 
   clock_timed : ticked f.timing (total_bits f.setup.form) ≡ next_timing (view_of f) (view_of f) true f.timing
-  clock_timed = go (held_of f) refl
-    where
-      go : (h : Bool) → held_of f ≡ h → ticked f.timing (total_bits f.setup.form) ≡ cond h Held (cond h Starting (ticked f.timing (total_bits f.setup.form)))
-      go true e = ap (λ t. ticked t (total_bits f.setup.form)) (holds e)
-      go false e = refl
+  clock_timed = grind arith
 
   -- each case
   timed_cases : Cases s Timed

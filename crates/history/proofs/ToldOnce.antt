@@ -39,9 +39,7 @@ module _ {F W : Type 0} (K : ℕ) (Goes Shows' : ℕ → W → Type 0) (Ends Tel
 
 -- the one number of a field
 pub only_named : (m n : ℕ) → Names (only m) n → m ≡ n
-only_named m n (p, inl h) = h
-only_named m n (p, inr (inl h)) = absurd (omega (arith, p, h))
-only_named m n (p, inr (inr h)) = absurd (omega (arith, p, h))
+only_named m n h = grind arith
 
 -- an event that is not declined is accepted
 module _ (events : List Event) (answers : List Answer) (refused : (k : ℕ) → k < length events → (r : Refusal) → (answer answers k ≡ Err r) ↔ Declined (history events) k r) where

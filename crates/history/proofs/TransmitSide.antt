@@ -1,6 +1,6 @@
 -- What each event does on the transmit side of the adapter is what the rules say: the queue, the word being shown, what is told. Assumes nothing.
-use Rattle.std.proofs.Common.{◌≡◌, ℕ, zero, suc, ◌+◌, ◌-◌, ◌/◌, ◌%◌, ◌<◌, ◌≤◌, Bool, true, false, cond, eqb, ltb, leb, ◌⊎◌, List, [], ◌∷◌, get_or, drop, Some, None, Ok, Err, Option, sym, refl, ap, ◌∙◌, subst, subst₂, inl, inr, add-one, arith}
-use Rattle.std.proofs.lemmas.Bool.{le-leb, lt-leb, leb-true, leb-false, ltb-true, ltb-false}
+use Rattle.std.proofs.Common.{◌≡◌, ℕ, zero, suc, ◌+◌, ◌-◌, ◌/◌, ◌%◌, ◌<◌, Bool, true, false, cond, eqb, ltb, leb, List, [], ◌∷◌, get_or, drop, Some, None, Ok, Err, Option, sym, refl, ap, ◌∙◌, subst, subst₂, inr, add-one, arith}
+use Rattle.std.proofs.lemmas.Bool.{le-leb, lt-leb, leb-true, leb-false, ltb-true, ltb-false, false≢true}
 use Rattle.std.specs.Option.{option_map, unwrap_or}
 use Rattle.serial.specs.Life.{Stands}
 use Rattle.serial.specs.Moves.{Act, enter, rise, take, empty, nothing, acted, queue_at, tells, tells_of}
@@ -11,7 +11,6 @@ use Rattle.serial.specs.Words.{value_of, word_of}
 use Rattle.serial.specs.declared.event.Event.TheVariants.{TransmitClock}
 use Rattle.serial.specs.declared.life.Way.TheVariants.{Displaced, Emptied}
 use Rattle.serial.specs.declared.queue.Queue.{Queue}
-use Rattle.serial.specs.declared.slip.QueueCode.{QueueCode}
 use Rattle.serial.specs.declared.slip.QueueCode.TheVariants as qu
 use Rattle.serial.specs.declared.slip.ShiftCode.TheVariants as sh
 use Rattle.serial.proofs.Carried.{numbers_risen, numbers_waiting}
@@ -28,20 +27,19 @@ use Rattle.ssda.specs.Step.{told_of, cut_code, cleared_written, overwrite_of, wr
 use Rattle.ssda.specs.Step as step
 use Rattle.ssda.specs.Transmitter.{byte_number, bit_shown, loads_at, shifted_on, shifting_in, word_for}
 use Rattle.history.specs.Events.{idles, clocks}
-use Rattle.history.specs.Settings.{History, to_data, form, held, Cuts, by_tx_reset, ResetsTransmitter}
+use Rattle.history.specs.Settings.{History, form, Cuts, by_tx_reset, ResetsTransmitter}
 use Rattle.history.specs.Lines.{T, written, Writes, Sending, still, starting, showing, Transmitter, Loads, first_word, next_word, holds, loaded, shown}
 use Rattle.history.specs.Law.{transmitting, Drops, Does, queue_code, shift_code, Shifts, only}
 use Rattle.history.specs.Answering.{WritesBytes, state_at, timing_for}
 use Rattle.history.proofs.Apart.{calm_clock}
 use Rattle.history.proofs.Calm.{calm_write, held_same}
 use Rattle.history.proofs.Cases.{Outcome, quietly}
-use Rattle.history.proofs.Computed.{clocked, sending_at}
+use Rattle.history.proofs.Computed.{sending_at}
 use Rattle.history.proofs.Contents.{Holds, Each, each_empty, each_entered, each_taken, each_risen, is_enter, is_rise, is_take, is_empty, is_nothing, held_third, way_told, shift_alone}
 use Rattle.history.proofs.Foretold.{queue_code_for, dropped_foretold, load_drops_nobody, quiet_drops_nobody, bit_foretold, last_foretold, cut_foretold, no_shift_foretold}
 use Rattle.history.proofs.OneState.{Good, next_by_lem, good_at, transmitter_at, transmitter_is}
 use Rattle.history.proofs.Resets.{calm_tx}
 use Rattle.history.proofs.Showing.{word, same_word, no_word}
-use Rattle.history.proofs.Small.{some_is, false_true, cond_through, neither_first}
 use Rattle.history.proofs.Tied.{form_now}
 use Rattle.history.proofs.TiedTransmitter.{timed}
 use Rattle.history.proofs.Transmitting.{transmit_act, transmitting_sane, here_now, loads_clock, written_next}
@@ -107,13 +105,7 @@ value_rest (x ∷ xs) (suc j) h = value_rest xs j (λ i. h (suc i))
 module _ (E : History) (k : ℕ) where
   -- it stays, or the transmitter is held or starts
   word_kept : (x : Shift) → clocks (E k) ≡ false → ShownIn E (sending_at E k) x → ShownIn E (sending_at E (suc k)) x
-  word_kept x c h = go (held E (suc k)) (held E k) (clocks (E k)) c
-    where
-      go : (a b d : Bool) → d ≡ false → ShownIn E (cond a still (cond b starting (cond d (clocked E k (sending_at E k)) (sending_at E k)))) x
-      go true b d e = tt
-      go false true d e = tt
-      go false false true e = false_true (sym e)
-      go false false false e = h
+  word_kept x c h = grind arith
 
   -- a cut holds the transmitter
   word_cut : (x : Shift) → Cuts E k → ShownIn E (sending_at E (suc k)) x
@@ -137,7 +129,7 @@ module _ (E : History) (k : ℕ) where
   still_act : ((n b : ℕ) → Writes E k n b → ⊥) → idles (E k) ≡ false → (Loads E k → ⊥) → (ResetsTransmitter E k → ⊥) → transmit_act E k ≡ nothing
   still_act a b c d =
       let h = here_now E k in
-      is_nothing (transmit_act E k) (λ n i. let x = (h.entering n).1 i in a n x.0 x.1) (λ i. false_true (sym b ∙ h.rising.1 i)) (λ i. c (h.taking.1 i)) (λ i. d (h.emptying.1 i))
+      is_nothing (transmit_act E k) (λ n i. let x = (h.entering n).1 i in a n x.0 x.1) (λ i. false≢true (sym b ∙ h.rising.1 i)) (λ i. c (h.taking.1 i)) (λ i. d (h.emptying.1 i))
 
 -- WHO IS BEING SHIFTED
 
@@ -151,9 +143,7 @@ module _ (E : History) where
 
   -- so it has one byte
   one_entry : (i j n b c : ℕ) → Writes E i n b → Writes E j n c → b ≡ c
-  one_entry i j n b c x y =
-      let e = neither_first i j (λ h. once i j n b c h x y) (λ h. once j i n c b h y x) in
-      some_is (sym x.byte ∙ ap (to_data E) e ∙ y.byte)
+  one_entry i j n b c x y = grind (arith, once i j n b c, once j i n c b)
 
 -- m is the number of the byte that is being shifted at moment k, if one is
 pub data ShiftsNow (E : History) (k : ℕ) (m : Option ℕ) : Type 0 where
@@ -196,11 +186,7 @@ module _ (E : History) (k : ℕ) where
 
   -- and where there is no clock and no cut
   calm_told : clocks (E k) ≡ false → (Cuts E k → ⊥) → Tells shift_code sh.Nothing (Does E k) sh.Nothing (only 0)
-  calm_told c u = no_shift_foretold E k go
-    where
-      go : (n l j : ℕ) → Shifts E k n l j → (clocks (E k) ≡ true) ⊎ Cuts E k → ⊥
-      go n l j x (inl h) = false_true (sym c ∙ h)
-      go n l j x (inr h) = u h
+  calm_told c u = no_shift_foretold E k (λ n l j x y. grind arith)
 
 -- EVENTS WITHOUT A CLOCK
 
@@ -211,10 +197,6 @@ pub record Calmly (E : History) (k : ℕ) : Type 0 where
   pub no_clock : clocks (E k) ≡ false
   pub no_reset : ResetsTransmitter E k → ⊥
   pub no_cut : Cuts E k → ⊥
-
--- a written byte has a number
-a_number : (E : History) (b : Byte) → Entry E b → 1 ≤ b.number
-a_number E b o = let f = o.writes.next in omega (arith, f)
 
 module _ (E : History) (k : ℕ) (s : State) (w : Sends E k s) (timing : s.front.timing ≡ timing_for E (sending_at E k)) where
   abbrev q : Queue Byte
@@ -235,7 +217,7 @@ module _ (E : History) (k : ℕ) (s : State) (w : Sends E k s) (timing : s.front
 
   -- without a clock no bit is shown
   no_bit : clocks (E k) ≡ false → (t : Told) (n l j i b : ℕ) → Shifts E k n l j → clocks (E k) ≡ true → Writes E i n b → t.value ≡ get_or (word_of (form E l) b) j 0
-  no_bit c t n l j i b x h y = false_true (sym c ∙ h)
+  no_bit c t n l j i b x h y = absurd (false≢true (sym c ∙ h))
 
   -- nothing is told of bytes
   abbrev pub QuietIn : Outcome → Type 0
@@ -253,7 +235,7 @@ module _ (E : History) (k : ℕ) (s : State) (w : Sends E k s) (timing : s.front
 
   -- and nothing is loaded
   no_load : clocks (E k) ≡ false → Loads E k → ⊥
-  no_load c l = false_true (sym c ∙ loads_clock E k l)
+  no_load c l = false≢true (sym c ∙ loads_clock E k l)
 
   -- nothing
   pub plain_passed : Calmly E k → (t : State) (o : Outcome) → t.transmit ≡ q → t.shift ≡ s.shift → QuietIn o → Passed E k s t o
@@ -275,13 +257,11 @@ module _ (E : History) (k : ℕ) (s : State) (w : Sends E k s) (timing : s.front
 
   -- a byte that enters; what it displaces is overwritten
   write_told_lem : (o : Option Byte) → Holds (Entry E) o → Tells queue_code qu.Nothing (Drops E k) (queue_code_for (tells Displaced (fields (list_of (option_map byte_number o)))).way) (fields (list_of (option_map byte_number o))) → Tells queue_code qu.Nothing (Drops E k) (overwrite_of o).queue (overwrite_of o).queued
-  write_told_lem None i t = t
-  write_told_lem (Some d) i t = simp (way_told d.number Displaced (a_number E d i)) at t
+  write_told_lem o i t = grind (arith, way_told)
 
   -- it tells nothing of the byte that is being shifted
   write_shift : (o : Option Byte) → ((overwrite_of o).shift ≡ sh.Nothing) × ((overwrite_of o).shifted ≡ 0)
-  write_shift None = (refl, refl)
-  write_shift (Some d) = (refl, refl)
+  write_shift o = grind arith
 
   pub write_passed : (b : Byte) → Writes E k b.number b.byte → clocks (E k) ≡ false → (Cuts E k → ⊥) → (t : State) → t.transmit ≡ entered q b → t.shift ≡ s.shift → Passed E k s t (Ok (write_told s))
   write_passed b x c n t e f = record {
@@ -325,9 +305,7 @@ module _ (E : History) (k : ℕ) (s : State) (w : Sends E k s) (timing : s.front
       foretold = foretold_as empty (reset_act E k r) (no_load c)
 
       told_now : Tells queue_code qu.Nothing (Drops E k) (cond (eqb (cleared_written s).first 0) qu.Nothing qu.Cleared) (cleared_written s)
-      told_now =
-          subst (λ (ns : List ℕ). Tells queue_code qu.Nothing (Drops E k) (cond (eqb (fields ns).first 0) qu.Nothing qu.Cleared) (fields ns)) (sym (numbers_waiting byte_number q))
-          (subst (λ (c : QueueCode). Tells queue_code qu.Nothing (Drops E k) c (fields (waiting (λ n. n) (numbers_by byte_number q)))) (cond_through queue_code_for _ None (Some Emptied)) foretold)
+      told_now = grind (arith, numbers_waiting byte_number q, foretold)
 
 -- A TRANSMIT CLOCK
 
@@ -430,7 +408,7 @@ module _ (E : History) (bytes : WritesBytes E) (k : ℕ) (w : Sends E k (state_a
       advance_passed no_loads (ap loads_at (timed E bytes k ∙ ap (timing_for E) e)) (subst (λ (z : Sending). ShownIn E z (shifted_on s.shift)) (transmitter_is E (suc k) still a) tt)
     where
       no_loads : Loads E k → ⊥
-      no_loads (first_word c h) = let u : starting ≡ still = transmitter_is E k _ h ∙ e in let y : ◌≡◌ {A = ℕ} 0 1 = cc in omega arith
+      no_loads (first_word c h) = let u : starting ≡ still = transmitter_is E k _ h ∙ e in cc
       no_loads (next_word l j c h i) = no_word E k l j still (λ z. z) (now_at E k still e) h
   clock_by starting e g y = load_passed (first_word clock (now_at E k starting e)) (ap loads_at (timed E bytes k ∙ ap (timing_for E) e))
   clock_by (showing l j) e g y = go (ltb (j + 1) (T E l)) refl

@@ -1,6 +1,7 @@
 -- The transmit side of the adapter is as the rules say, at every moment. Assumes nothing.
 use Rattle.std.proofs.Common.{◌≡◌, ℕ, zero, suc, ◌+◌, ◌<◌, Bool, true, false, cond, eqb, [], Some, None, Ok, Option, sym, refl, ap, ◌∙◌, arith}
-use Rattle.std.proofs.lemmas.Bool.{le-leb}
+use Rattle.std.proofs.lemmas.Option.{same_Some, none-some}
+use Rattle.std.proofs.lemmas.Bool.{le-leb, false≢true}
 use Rattle.std.specs.Option.{unwrap_or}
 use Rattle.serial.specs.Moves.{acted}
 use Rattle.serial.specs.Queue.{empty_queue, fields}
@@ -27,7 +28,6 @@ use Rattle.history.proofs.Cases.{Outcome, Cases, by_cases, outcome}
 use Rattle.history.proofs.Contents.{each_empty}
 use Rattle.history.proofs.Refusals.{data_by_lem, data_by}
 use Rattle.history.proofs.Resets.{no_fall, no_fall_to, no_rise, no_rise_to, no_tx, no_cut}
-use Rattle.history.proofs.Small.{none_some, some_is, false_true}
 use Rattle.history.proofs.Tied.{reset_now, cts_now, written_now}
 use Rattle.history.proofs.TiedTransmitter.{timed}
 use Rattle.history.proofs.TransmitSide.{Entry, Sends, RightIn, Passed, Calmly, QuietIn, plain_passed, idle_passed, write_passed, cut_passed, reset_passed, clock_passed}
@@ -37,45 +37,31 @@ use Rattle.history.proofs.Transmitting.{transmit_act}
 
 -- a reset of the transmitter empties its queue and cuts the byte that is being shifted
 reset_leaves : (x y : Bool) (s : State) → y ≡ true → (both_resets x y s).transmit ≡ empty_queue
-reset_leaves true true s e = refl
-reset_leaves false true s e = refl
-reset_leaves x false s e = false_true e
+reset_leaves x y s e = grind arith
 
 reset_tells : (x y : Bool) (s : State) → y ≡ true → ((both_told x y s).queue ≡ cond (eqb (cleared_written s).first 0) qu.Nothing qu.Cleared) × ((both_told x y s).queued ≡ cleared_written s) × ((both_told x y s).shift ≡ cut_code (shifting_in s.front.timing s.shift) sh.Nothing) × ((both_told x y s).shifted ≡ unwrap_or (shifting_in s.front.timing s.shift) 0)
-reset_tells true true s e = (refl, refl, refl, refl)
-reset_tells false true s e = (refl, refl, refl, refl)
-reset_tells x false s e = false_true e
+reset_tells x y s e = grind arith
 
 -- no reset of it leaves both
 kept_leaves : (x y : Bool) (s : State) → y ≡ false → ((both_resets x y s).transmit ≡ s.transmit) × ((both_resets x y s).shift ≡ s.shift)
-kept_leaves x true s e = false_true (sym e)
-kept_leaves true false s e = (refl, refl)
-kept_leaves false false s e = (refl, refl)
+kept_leaves x y s e = grind arith
 
 kept_tells : (x y : Bool) (s : State) → y ≡ false → ((both_told x y s).queue ≡ qu.Nothing) × ((both_told x y s).queued ≡ fields []) × ((both_told x y s).shift ≡ sh.Nothing) × ((both_told x y s).shifted ≡ 0)
-kept_tells x true s e = false_true (sym e)
-kept_tells true false s e = (refl, refl, refl, refl)
-kept_tells false false s e = (refl, refl, refl, refl)
+kept_tells x y s e = grind arith
 
 -- a received bit leaves the transmit side, and tells nothing of it
 bit_transmit : (s : State) (o : Option Character) (t : Bool) → strips_of s.front ≡ t → ((taken s o).transmit ≡ s.transmit) × ((taken s o).shift ≡ s.shift)
-bit_transmit s None t e = (refl, refl)
-bit_transmit s (Some c) true e = (simp e, simp e)
-bit_transmit s (Some c) false e = (simp e, simp e)
+bit_transmit s o t e = grind arith
 
 -- what is told of received characters is nothing of bytes
 loss_quiet : (o : Option Character) → ((loss_of o).queue ≡ qu.Nothing) × ((loss_of o).queued ≡ fields []) × ((loss_of o).shift ≡ sh.Nothing) × ((loss_of o).shifted ≡ 0)
-loss_quiet None = (refl, refl, refl, refl)
-loss_quiet (Some c) = (refl, refl, refl, refl)
+loss_quiet o = grind arith
 
 bit_quiet : (s : State) (o : Option Character) (t : Bool) → strips_of s.front ≡ t → ((tells_of s o).slip.queue ≡ qu.Nothing) × ((tells_of s o).slip.queued ≡ fields []) × ((tells_of s o).slip.shift ≡ sh.Nothing) × ((tells_of s o).slip.shifted ≡ 0)
-bit_quiet s None t e = (refl, refl, refl, refl)
-bit_quiet s (Some c) true e = (simp e, simp e, simp e, simp e)
-bit_quiet s (Some c) false e = let q = loss_quiet s.receive.one in (simp e q.0, simp e q.1, simp e q.2, simp e q.3)
+bit_quiet s o t e = grind (arith, loss_quiet s.receive.one)
 
 delivery_quiet : (o : Option Character) → ((delivery_of o).queue ≡ qu.Nothing) × ((delivery_of o).queued ≡ fields []) × ((delivery_of o).shift ≡ sh.Nothing) × ((delivery_of o).shifted ≡ 0)
-delivery_quiet None = (refl, refl, refl, refl)
-delivery_quiet (Some c) = (refl, refl, refl, refl)
+delivery_quiet o = grind arith
 
 -- EVENTS THAT DO NOTHING ON THE TRANSMIT SIDE
 
@@ -100,7 +86,7 @@ module _ (E : History) (k : ℕ) where
 
   -- such an event that writes nothing to C1 and to transmit data, and moves neither RESET nor CTS
   calmly_off : (e : Event) → E k ≡ e → ((n b : ℕ) → Writes E k n b → ⊥) → idles e ≡ false → clocks e ≡ false → writes 0 e ≡ None → level_for 0 e ≡ None → level_for 1 e ≡ None → Calmly E k
-  calmly_off e x w i c d f u = calmly_by e x w i c (λ h. none_some true (sym (ap (bit_of 1) d) ∙ h)) (no_fall E k (ap (level_for 0) x ∙ f)) (no_rise E k (ap (level_for 1) x ∙ u))
+  calmly_off e x w i c d f u = calmly_by e x w i c (λ h. none-some true (sym (ap (bit_of 1) d) ∙ h)) (no_fall E k (ap (level_for 0) x ∙ f)) (no_rise E k (ap (level_for 1) x ∙ u))
 
   calmly_none : (e : Event) → E k ≡ e → writes 1 e ≡ None → idles e ≡ false → clocks e ≡ false → writes 0 e ≡ None → level_for 0 e ≡ None → level_for 1 e ≡ None → Calmly E k
   calmly_none e x w = calmly_off e x (unwritten e x w)
@@ -114,8 +100,7 @@ module _ (E : History) (bytes : WritesBytes E) (k : ℕ) (w : Sends E k (state_a
 
   -- a write with RS 1 to another register
   elsewhere : (b : ℕ) (t : Target) → s.front.control.target ≡ t → data_by t (Some b) ≡ None → E k ≡ Bus (Write 1 b) → Calmly E k
-  elsewhere b t e h x =
-      calmly_off E k _ x (λ n c y. none_some c (sym (data_by_lem E bytes k b t e x ∙ h) ∙ y.byte)) refl refl refl refl refl
+  elsewhere b t e h x = grind (arith, calmly_off, data_by_lem)
 
   -- a write to C1
   c1_passed : (b : ℕ) → E k ≡ Bus (Write 0 b) → (z : Bool) → reg.bit_of 1 b ≡ z → Passed E k s (c1_was_written s b) (Ok (c1_told s b))
@@ -124,7 +109,7 @@ module _ (E : History) (bytes : WritesBytes E) (k : ℕ) (w : Sends E k (state_a
       reset_passed E k s w (timed E bytes k) (by_tx_rs (ap (λ e. bit_of 1 (writes 0 e)) x ∙ ap Some e)) (ap clocks x) (c1_was_written s b) (c1_told s b) (reset_leaves (reg.bit_of 0 b) (reg.bit_of 1 b) s e) t.0 t.1 t.2 t.3
   c1_passed b x false e =
       let l = kept_leaves (reg.bit_of 0 b) (reg.bit_of 1 b) s e in
-      aside (calmly_by E k _ x (unwritten E k _ x refl) refl refl (λ h. false_true (sym e ∙ some_is h)) (no_fall E k (ap (level_for 0) x)) (no_rise E k (ap (level_for 1) x))) (c1_was_written s b) (Ok (c1_told s b)) l.0 l.1 (kept_tells (reg.bit_of 0 b) (reg.bit_of 1 b) s e)
+      aside (calmly_by E k _ x (unwritten E k _ x refl) refl refl (λ h. false≢true (sym e ∙ same_Some _ _ h)) (no_fall E k (ap (level_for 0) x)) (no_rise E k (ap (level_for 1) x))) (c1_was_written s b) (Ok (c1_told s b)) l.0 l.1 (kept_tells (reg.bit_of 0 b) (reg.bit_of 1 b) s e)
 
   -- a byte written to transmit data
   entry : (b : ℕ) → s.front.control.target ≡ TransmitData → s.front.written < limit → E k ≡ Bus (Write 1 b) → Writes E k (s.front.written + 1) b
@@ -141,7 +126,7 @@ module _ (E : History) (bytes : WritesBytes E) (k : ℕ) (w : Sends E k (state_a
   passed_cases : Cases s PassedBy
   passed_cases = record {
     idle = λ x.
-        let r = unreset E k _ x (none_some true) (no_fall E k (ap (level_for 0) x)) in
+        let r = unreset E k _ x (none-some true) (no_fall E k (ap (level_for 0) x)) in
         idle_passed E k s w (timed E bytes k) (ap idles x) (ap clocks x) (unwritten E k _ x refl) r (no_cut E k r (no_rise E k (ap (level_for 1) x))) _ refl refl;
     status = λ x. aside (calmly_none E k _ x refl refl refl refl refl refl) _ _ refl refl (refl, refl, refl, refl);
     data_read = λ x. aside (calmly_none E k _ x refl refl refl refl refl refl) _ _ refl refl (delivery_quiet s.receive.three);
@@ -151,7 +136,7 @@ module _ (E : History) (bytes : WritesBytes E) (k : ℕ) (w : Sends E k (state_a
     code = λ b e x. aside (elsewhere b SyncCode e refl x) _ _ refl refl (refl, refl, refl, refl);
     byte = λ b e h x.
         write_passed E k s w (timed E bytes k) (record { number = s.front.written + 1; byte = b }) (entry b e h x) (ap clocks x)
-        (no_cut E k (unreset E k _ x (none_some true) (no_fall E k (ap (level_for 0) x))) (no_rise E k (ap (level_for 1) x))) _ refl refl;
+        (no_cut E k (unreset E k _ x (none-some true) (no_fall E k (ap (level_for 0) x))) (no_rise E k (ap (level_for 1) x))) _ refl refl;
     bit = λ b l h x.
         let t = with_front s (heard_front s.front b) in
         let o = framed_front s.front b in
@@ -160,14 +145,14 @@ module _ (E : History) (bytes : WritesBytes E) (k : ℕ) (w : Sends E k (state_a
     clock = λ x. clock_passed E bytes k w x;
     reset_falls = λ e x.
         reset_passed E k s w (timed E bytes k) (by_reset (sym (reset_now E bytes k) ∙ e, ap (λ e. or_else (level_for 0 e) (reset E k)) x)) (ap clocks x) _ _ refl refl refl refl refl;
-    reset_rises = λ e x. aside (calmly_by E k _ x (unwritten E k _ x refl) refl refl (none_some true) (no_fall_to E k true (ap (level_for 0) x) (λ h. false_true (sym h))) (no_rise E k (ap (level_for 1) x))) _ _ refl refl (refl, refl, refl, refl);
-    cts_falls = λ e x. aside (calmly_by E k _ x (unwritten E k _ x refl) refl refl (none_some true) (no_fall E k (ap (level_for 0) x)) (no_rise_to E k false (ap (level_for 1) x) (λ h. false_true h))) _ _ refl refl (refl, refl, refl, refl);
+    reset_rises = λ e x. aside (calmly_by E k _ x (unwritten E k _ x refl) refl refl (none-some true) (no_fall_to E k true (ap (level_for 0) x) (λ h. cc)) (no_rise E k (ap (level_for 1) x))) _ _ refl refl (refl, refl, refl, refl);
+    cts_falls = λ e x. aside (calmly_by E k _ x (unwritten E k _ x refl) refl refl (none-some true) (no_fall E k (ap (level_for 0) x)) (no_rise_to E k false (ap (level_for 1) x) (λ h. cc))) _ _ refl refl (refl, refl, refl, refl);
     cts_rises = λ e x.
-        cut_passed E k s w (timed E bytes k) (by_cts (sym (cts_now E bytes k) ∙ e, ap (λ e. or_else (level_for 1 e) (cts E k)) x)) (unreset E k _ x (none_some true) (no_fall E k (ap (level_for 0) x))) (ap idles x) (ap clocks x) (unwritten E k _ x refl) _ _ refl (refl, refl) refl refl;
+        cut_passed E k s w (timed E bytes k) (by_cts (sym (cts_now E bytes k) ∙ e, ap (λ e. or_else (level_for 1 e) (cts E k)) x)) (unreset E k _ x (none-some true) (no_fall E k (ap (level_for 0) x))) (ap idles x) (ap clocks x) (unwritten E k _ x refl) _ _ refl (refl, refl) refl refl;
     dcd_falls = λ e x. aside (calmly_none E k _ x refl refl refl refl refl refl) _ _ refl refl (refl, refl, refl, refl);
     dcd_rises = λ e x. aside (calmly_none E k _ x refl refl refl refl refl refl) _ _ refl refl (refl, refl, refl, refl);
-    same_reset = λ l h e x. aside (calmly_by E k _ x (unwritten E k _ x refl) refl refl (none_some true) (no_fall_to E k (eqb l 1) (ap (level_for 0) x ∙ simp (le-leb l 1 h)) (λ i. sym (reset_now E bytes k) ∙ sym e ∙ i)) (no_rise E k (ap (level_for 1) x))) _ _ refl refl (refl, refl, refl, refl);
-    same_cts = λ l h e x. aside (calmly_by E k _ x (unwritten E k _ x refl) refl refl (none_some true) (no_fall E k (ap (level_for 0) x)) (no_rise_to E k (eqb l 1) (ap (level_for 1) x ∙ simp (le-leb l 1 h)) (λ i. sym (cts_now E bytes k) ∙ sym e ∙ i))) _ _ refl refl (refl, refl, refl, refl);
+    same_reset = λ l h e x. aside (calmly_by E k _ x (unwritten E k _ x refl) refl refl (none-some true) (no_fall_to E k (eqb l 1) (ap (level_for 0) x ∙ simp (le-leb l 1 h)) (λ i. sym (reset_now E bytes k) ∙ sym e ∙ i)) (no_rise E k (ap (level_for 1) x))) _ _ refl refl (refl, refl, refl, refl);
+    same_cts = λ l h e x. aside (calmly_by E k _ x (unwritten E k _ x refl) refl refl (none-some true) (no_fall E k (ap (level_for 0) x)) (no_rise_to E k (eqb l 1) (ap (level_for 1) x ∙ simp (le-leb l 1 h)) (λ i. sym (cts_now E bytes k) ∙ sym e ∙ i))) _ _ refl refl (refl, refl, refl, refl);
     same_dcd = λ l h e x. aside (calmly_none E k _ x refl refl refl refl refl refl) _ _ refl refl (refl, refl, refl, refl);
     outside = λ e r o x.
         let i = inert e r o in

@@ -1,6 +1,6 @@
 -- The settings of the adapter's front are those of the history, at every moment. Assumes nothing.
-use Rattle.std.proofs.Common.{◌≡◌, ℕ, suc, ◌/◌, ◌%◌, ◌<◌, Bool, true, false, cond, not, ◌&&◌, ◌||◌, ltb, Some, None, Option, ◌==◌, sym, refl, arith}
-use Rattle.std.proofs.lemmas.Bool.{eqb-true, eqb-false}
+use Rattle.std.proofs.Common.{◌≡◌, ℕ, suc, ◌/◌, ◌%◌, ◌<◌, Bool, true, false, cond, ltb, Some, None, Option, ◌==◌, arith}
+use Rattle.std.proofs.lemmas.Bool.Decides.{nat_tests}
 use Rattle.std.specs.Option.{unwrap_or}
 use Rattle.serial.specs.declared.event.Event.{Event}
 use Rattle.serial.specs.declared.word.Form.{Form}
@@ -15,7 +15,6 @@ use Rattle.history.specs.Events.{bit_at, writes, level_for}
 use Rattle.history.specs.Settings.{History, or_else, bit_of, to_c1, to_c3, c1, reset, cts, dcd, rx_reset, tx_reset, external, clear_sync, strip_sync, one_sync, form, sync_code}
 use Rattle.history.specs.Lines.{one_more, written}
 use Rattle.history.proofs.Calm.{low}
-use Rattle.history.proofs.Small.{cond_same}
 
 -- all settings that the law speaks of
 pub record View : Type 0 where
@@ -112,16 +111,13 @@ next_view e v = next_by (level_for 0 e) (level_for 1 e) (level_for 2 e) (writes 
 
 -- a bit of the byte that was written last, where the byte leads, and the form that it selects
 bit_last : (i : ℕ) (o : Option ℕ) (x : ℕ) → bit_at i (or_else o x) ≡ or_else (bit_of i o) (bit_at i x)
-bit_last i None x = refl
-bit_last i (Some b) x = refl
+bit_last i o x = grind arith
 
 led_last : (o : Option ℕ) (x : ℕ) → or_else o x / 64 ≡ or_else (led o) (x / 64)
-led_last None x = refl
-led_last (Some b) x = refl
+led_last o x = grind arith
 
 form_last : (o : Option ℕ) (x : ℕ) → unwrap_or (form_of (or_else o x / 8 % 8)) SixEven ≡ or_else (form_in o) (unwrap_or (form_of (x / 8 % 8)) SixEven)
-form_last None x = refl
-form_last (Some b) x = refl
+form_last o x = grind arith
 
 -- so the settings of a history go on
 pub view_next : (E : History) (k : ℕ) → view_at E (suc k) ≡ next_view (E k) (view_at E k)
@@ -141,96 +137,56 @@ low_at E k = record {
   external_held = low (reset E) false (λ i. bit_of 0 (to_c3 E i)) k;
 }
 
--- a bit that is v while r is false
-keep : (r x v : Bool) → (r ≡ false → x ≡ v) → cond r x v ≡ x
-keep true x v h = refl
-keep false x v h = sym (h refl)
-
 -- nothing is set
 pub quiet : (v : View) → Low v → next_by None None None None None v ≡ v
-quiet v l =
-    let a = keep v.reset v.rx true l.rx_held in
-    let b = keep v.reset v.tx true l.tx_held in
-    let c = keep v.reset v.external false l.external_held in
-    simp (cond_same, a, b, c)
+quiet v l = grind arith
 
 -- a byte leads where its two upper bits say
 pub leads : (b : ℕ) → b < 256 → place_of (reg.addressed (reg.bit_of 7 b) (reg.bit_of 6 b)) ≡ b / 64
-leads b h = go (reg.bit_of 7 b) (reg.bit_of 6 b) refl refl
-  where
-    go : (x y : Bool) → reg.bit_of 7 b ≡ x → reg.bit_of 6 b ≡ y → place_of (reg.addressed x y) ≡ b / 64
-    go true true e f = let i = eqb-true (b / 128 % 2) 1 e in let j = eqb-true (b / 64 % 2) 1 f in omega (arith, h)
-    go true false e f = let i = eqb-true (b / 128 % 2) 1 e in let j = eqb-false (b / 64 % 2) 1 f in omega (arith, h)
-    go false true e f = let i = eqb-false (b / 128 % 2) 1 e in let j = eqb-true (b / 64 % 2) 1 f in omega (arith, h)
-    go false false e f = let i = eqb-false (b / 128 % 2) 1 e in let j = eqb-false (b / 64 % 2) 1 f in omega (arith, h)
-
--- a bit that RESET holds at 1, and one that it holds at 0, as written
-held_one : (b r : Bool) → (b || not r) ≡ cond r b true
-held_one true true = refl
-held_one true false = refl
-held_one false true = refl
-held_one false false = refl
-
-held_zero : (b r : Bool) → (b && r) ≡ cond r b false
-held_zero true true = refl
-held_zero true false = refl
-held_zero false true = refl
-held_zero false false = refl
+leads b h = grind (arith, nat_tests)
 
 -- a byte written to C1, and to each of the others
 pub view_c1 : (f : Front) (b : ℕ) → b < 256 → Low (view_of f) → view_of (wrote_c1 f b) ≡ next_by None None None (Some b) None (view_of f)
-view_c1 f b h l =
-    let c = keep f.pins.reset f.setup.external false l.external_held in
-    let g = leads b h in
-    simp (cond_same, c, g, held_one)
+view_c1 f b h l = grind (arith, leads b h)
 
 -- what RESET holds is kept where RESET keeps its level
 module _ (f : Front) (l : Low (view_of f)) where
-  kept_rx : cond f.pins.reset f.control.rx_reset true ≡ f.control.rx_reset
-  kept_rx = keep _ _ true l.rx_held
-
-  kept_tx : cond f.pins.reset f.control.tx_reset true ≡ f.control.tx_reset
-  kept_tx = keep _ _ true l.tx_held
-
-  kept_external : cond f.pins.reset f.setup.external false ≡ f.setup.external
-  kept_external = keep _ _ false l.external_held
-
   -- a byte written with RS 1, by where it goes
   pub view_c2 : (b : ℕ) → f.control.target ≡ C2 → view_of (wrote_c2 f b) ≡ next_by None None None None (Some b) (view_of f)
-  view_c2 b e = simp (e, kept_rx, kept_tx, kept_external)
+  view_c2 b e = grind arith
 
   pub view_c3 : (b : ℕ) → f.control.target ≡ C3 → view_of (wrote_c3 f b) ≡ next_by None None None None (Some b) (view_of f)
-  view_c3 b e = simp (e, kept_rx, kept_tx, held_zero)
+  view_c3 b e = grind arith
 
   pub view_code : (b : ℕ) → f.control.target ≡ SyncCode → view_of (wrote_code f b) ≡ next_by None None None None (Some b) (view_of f)
-  view_code b e = simp (e, kept_rx, kept_tx, kept_external)
+  view_code b e = grind arith
 
   pub view_data : (b : ℕ) → f.control.target ≡ TransmitData → ltb f.written 16000000 ≡ true → view_of (counted_write f) ≡ next_by None None None None (Some b) (view_of f)
-  view_data b e h = simp (e, h, kept_rx, kept_tx, kept_external)
+  view_data b e h = grind arith
 
   -- where all numbers are used up nothing changes
   pub view_full : (b : ℕ) → f.control.target ≡ TransmitData → ltb f.written 16000000 ≡ false → view_of f ≡ next_by None None None None (Some b) (view_of f)
-  view_full b e h = simp (e, h, kept_rx, kept_tx, kept_external)
+  view_full b e h = grind arith
 
   -- the pins
   pub view_cts : (h : Bool) → view_of (with_cts f h) ≡ next_by None (Some h) None None None (view_of f)
-  view_cts h = simp (cond_same, kept_rx, kept_tx, kept_external)
+  view_cts h = grind arith
 
   pub view_dcd : (h : Bool) → view_of (with_dcd f h) ≡ next_by None None (Some h) None None (view_of f)
-  view_dcd h = simp (cond_same, kept_rx, kept_tx, kept_external)
+  view_dcd h = grind arith
 
   pub view_fell : view_of (reset_fell f) ≡ next_by (Some false) None None None None (view_of f)
-  view_fell = simp cond_same
+  view_fell = grind arith
 
   pub view_rose : view_of (reset_rose f) ≡ next_by (Some true) None None None None (view_of f)
-  view_rose = simp cond_same
+  view_rose = grind arith
 
   -- a level that is the present one
   pub view_reset_same : (h : Bool) → h ≡ f.pins.reset → view_of f ≡ next_by (Some h) None None None None (view_of f)
-  view_reset_same h e = simp (e, cond_same, kept_rx, kept_tx, kept_external)
+  view_reset_same h e = grind arith
 
   pub view_cts_same : (h : Bool) → h ≡ f.pins.cts → view_of f ≡ next_by None (Some h) None None None (view_of f)
-  view_cts_same h e = simp (e, cond_same, kept_rx, kept_tx, kept_external)
+  view_cts_same h e = grind arith
 
   pub view_dcd_same : (h : Bool) → h ≡ f.pins.dcd → view_of f ≡ next_by None None (Some h) None None (view_of f)
-  view_dcd_same h e = simp (e, cond_same, kept_rx, kept_tx, kept_external)
+  view_dcd_same h e = grind arith

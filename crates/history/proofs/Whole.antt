@@ -1,10 +1,9 @@
 -- Every answer of the adapter is truthful, and the whole law holds of every list of events whose writes are bytes. Assumes nothing.
-use Rattle.std.proofs.Common.{◌≡◌, ℕ, ◌*◌, ◌/◌, ◌%◌, ◌<◌, ◌≤◌, Bool, true, false, cond, ◌||◌, eqb, ◌↔◌, List, length, Some, Option, Ok, Err, Result, sym, refl, ap, ◌∙◌, subst, arith}
+use Rattle.std.proofs.Common.{◌≡◌, ℕ, ◌*◌, ◌/◌, ◌%◌, ◌<◌, ◌≤◌, Bool, true, false, cond, eqb, ◌↔◌, List, length, Some, Option, Ok, Err, Result, sym, ap, ◌∙◌, subst, arith}
+use Rattle.std.proofs.lemmas.Option.{same_Some}
 use Rattle.std.proofs.lemmas.List.FromFn.{length-map-range_with_len, get_or-map-range_with_len}
 use Rattle.serial.specs.Life.{Stands, Shows}
-use Rattle.serial.specs.declared.event.Cycle.TheVariants.{Idle, Read, Write}
 use Rattle.serial.specs.declared.event.Event.{Event}
-use Rattle.serial.specs.declared.event.Event.TheVariants.{Bus, ReceivedBit, TransmitClock, PinLevel}
 use Rattle.serial.specs.declared.event.Refusal.{Refusal}
 use Rattle.serial.specs.declared.queue.Queue.{Queue}
 use Rattle.serial.specs.declared.slip.Reply.{Reply}
@@ -33,7 +32,6 @@ use Rattle.history.proofs.ReceivedFates.{received_one_fate, delivered_rising}
 use Rattle.history.proofs.Receiving.{count, receive_act, receiving_sane}
 use Rattle.history.proofs.Refusals.{refused_at}
 use Rattle.history.proofs.SentBits.{sent_bits}
-use Rattle.history.proofs.Small.{none_some, some_is, ok_err, false_true}
 use Rattle.history.proofs.TiedTransmitter.{timed}
 use Rattle.history.proofs.ToldOnce.{received_once, written_once}
 use Rattle.history.proofs.TransmitSide as sent
@@ -50,26 +48,19 @@ one true = 1
 one false = 0
 
 weighs : (b : Bool) (w : ℕ) → (cond b w 0 ≡ w * one b) × (one b ≤ 1)
-weighs true w = (omega arith, omega arith)
-weighs false w = (omega arith, omega arith)
+weighs b w = grind arith
 
 one_is : (b : Bool) → eqb (one b) 1 ≡ b
-one_is true = refl
-one_is false = refl
+one_is b = grind arith
 
 module _ (f : Flags) (x : Conditions) (interrupt : Bool) where
   -- bits 5 and 7 of Status, where each bit weighs its part
-  parts : (status_byte f x interrupt / 32 % 2 ≡ one f.overrun) × (status_byte f x interrupt / 128 % 2 ≡ one interrupt)
-  parts =
-      let a = weighs x.rda 1 in let b = weighs x.tdra 2 in
-      let c = weighs (f.dcd || x.dcd_high) 4 in let d = weighs (f.cts || x.cts_high) 8 in
-      let e = weighs f.underflow 16 in let g = weighs f.overrun 32 in
-      let h = weighs x.parity 64 in let i = weighs interrupt 128 in
-      (omega arith, omega arith)
+  parts : (status_byte f x interrupt / 32 % 2 ≡ one f.overrun.set) × (status_byte f x interrupt / 128 % 2 ≡ one interrupt)
+  parts = grind (arith, weighs)
 
   -- bit 5 is overrun
-  bit_five : bit_at 5 (status_byte f x interrupt) ≡ f.overrun
-  bit_five = ap (λ n. eqb n 1) parts.0 ∙ one_is f.overrun
+  bit_five : bit_at 5 (status_byte f x interrupt) ≡ f.overrun.set
+  bit_five = ap (λ n. eqb n 1) parts.0 ∙ one_is f.overrun.set
 
   -- bit 7 is the interrupt
   pub bit_seven : bit_at 7 (status_byte f x interrupt) ≡ interrupt
@@ -77,12 +68,7 @@ module _ (f : Flags) (x : Conditions) (interrupt : Bool) where
 
 -- a Status read gives the Status byte
 pub status_value : (s : State) (e : Event) → reads 0 e ≡ true → (tells s e).value ≡ status_of s
-status_value s (Bus Idle) h = false_true h
-status_value s (Bus (Read rs)) h = simp h
-status_value s (Bus (Write rs b)) h = false_true h
-status_value s (ReceivedBit b) h = false_true h
-status_value s TransmitClock h = false_true h
-status_value s (PinLevel p l) h = false_true h
+status_value s e h = grind arith
 
 -- EACH ANSWER
 
@@ -93,7 +79,7 @@ module _ (E : History) (bytes : WritesBytes E) (k : ℕ) where
   -- a Status read shows overrun
   overrun_shown : ReadsStatus E k → (bit_at 5 (tells s (E k)).value ≡ true) ↔ Overrun E k
   overrun_shown h =
-      let e : bit_at 5 (tells s (E k)).value ≡ s.flags.overrun = ap (bit_at 5) (status_value s (E k) h) ∙ bit_five s.flags (conditions_of s) (interrupt_of s) in
+      let e : bit_at 5 (tells s (E k)).value ≡ s.flags.overrun.set = ap (bit_at 5) (status_value s (E k) h) ∙ bit_five s.flags (conditions_of s) (interrupt_of s) in
       ((λ i. (overrun_flag E bytes k).0 (sym e ∙ i)), (λ o. e ∙ (overrun_flag E bytes k).1 o))
 
   -- the answer to an accepted event tells what happened
@@ -109,8 +95,7 @@ module _ (E : History) (bytes : WritesBytes E) (k : ℕ) where
 
   -- by the check that the adapter makes
   truthful_by : (c : Result (Unit {0}) Refusal) → rec.RightIn E k (outcome_by c s (E k)) → sent.RightIn E k (outcome_by c s (E k)) → (r : Reply) → answered_by c s (E k) ≡ Ok r → Truthful E k r
-  truthful_by (Ok x) a b r e = let i : replied s (E k) ≡ r = cc in subst (Truthful E k) i (replied_truthful a b)
-  truthful_by (Err q) a b r e = ok_err r q (sym e)
+  truthful_by c a b r e = grind (arith, replied_truthful)
 
   truthful_at : (r : Reply) → answer_at E k ≡ Ok r → Truthful E k r
   truthful_at r e = truthful_by (checked_by s.front (E k)) (received_right E bytes k) (written_right E bytes k) r e
@@ -128,11 +113,11 @@ module _ (E : History) (bytes : WritesBytes E) (k : ℕ) where
 
   -- and who is being shifted
   number_shown : (m : Option ℕ) → ShiftsNow E k m → (n : ℕ) → (m ≡ Some n) ↔ ((l j : ℕ) × Shifts E k n l j)
-  number_shown m (nobody e none) n = ((λ h. none_some n (sym e ∙ h)), (λ x. absurd (none n x.0 x.1 x.2)))
+  number_shown m (nobody e none) n = ((λ h. cc), (λ x. absurd (none n x.0 x.1 x.2)))
   number_shown m (somebody i l j x e) n = (to, from)
     where
       to : m ≡ Some n → (l j : ℕ) × Shifts E k n l j
-      to h = (l, j, subst (λ (i : ℕ). Shifts E k i l j) (some_is (sym e ∙ h)) x)
+      to h = (l, j, subst (λ (i : ℕ). Shifts E k i l j) (same_Some i n (sym e ∙ h)) x)
 
       from : (l j : ℕ) × Shifts E k n l j → m ≡ Some n
       from y = e ∙ ap Some (one_shift E k i l j n y.0 y.1 x y.2).0

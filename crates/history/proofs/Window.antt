@@ -1,17 +1,13 @@
 -- The last nine bits as a number: how it goes on by each event, and that its upper bits are the last bits of a character. Assumes nothing.
-use Rattle.std.proofs.Common.{◌≡◌, ℕ, zero, suc, ◌+◌, ◌-◌, ◌*◌, ◌/◌, ◌^◌, ◌<◌, Bool, true, false, cond, leb, [], ◌∷◌, ◌++◌, length, Some, None, Option, sym, refl, ap, ◌∙◌, ap₂, arith, lit<}
-use Rattle.std.proofs.lemmas.Bool.{leb-true}
+use Rattle.std.proofs.Common.{◌≡◌, ℕ, zero, suc, ◌+◌, ◌-◌, ◌*◌, ◌/◌, ◌^◌, ◌<◌, Bool, true, false, cond, [], ◌∷◌, ◌++◌, length, Some, None, Option, sym, refl, ap, ◌∙◌, ap₂, arith, lit<}
+use Rattle.std.proofs.lemmas.Bool.Decides.{nat_tests}
 use Rattle.serial.specs.declared.event.Event.{Event}
-use Rattle.serial.specs.declared.event.Event.TheVariants.{Bus, ReceivedBit, TransmitClock, PinLevel}
-use Rattle.serial.specs.declared.event.Cycle.TheVariants.{Idle, Read, Write}
 use Rattle.serial.specs.declared.word.Form.{Form}
-use Rattle.serial.specs.declared.word.Form.TheVariants.{SixEven, SixOdd, Seven, Eight, SevenEven, SevenOdd, EightEven, EightOdd}
 use Rattle.serial.specs.Words.{bits_of, value_of, total_bits}
 use Rattle.serial.proofs.Bits.{Bits, none, more, bits_value, value_push}
 use Rattle.history.specs.Events.{received}
 use Rattle.history.specs.Settings.{History, off}
 use Rattle.history.specs.Lines.{restarts, pushed, ago, last_bits}
-use Rattle.history.proofs.Small.{none_some, some_is}
 
 -- the last nine bits at moment k, the oldest lowest
 abbrev pub window : History → ℕ → ℕ
@@ -19,16 +15,7 @@ window E k = value_of (last_bits E k 9)
 
 -- a received bit is 0 or 1
 received_below : (e : Event) (b : ℕ) → received e ≡ Some b → b < 2
-received_below (Bus Idle) b h = none_some b h
-received_below (Bus (Read rs)) b h = none_some b h
-received_below (Bus (Write rs x)) b h = none_some b h
-received_below (ReceivedBit x) b h = go (leb x 1) refl h
-  where
-    go : (t : Bool) → leb x 1 ≡ t → cond t (Some x) None ≡ Some b → b < 2
-    go true e h = omega (arith, leb-true x 1 e, some_is h)
-    go false e h = none_some b h
-received_below TransmitClock b h = none_some b h
-received_below (PinLevel p l) b h = none_some b h
+received_below e b h = grind (arith, nat_tests)
 
 -- so is every bit that came in, and those before any came
 ago_below : (E : History) (k i : ℕ) → ago E k i < 2
@@ -53,24 +40,17 @@ length_last E k (suc t) = ap suc (length_last E k t)
 
 -- each bit that came in, by each event
 module _ (E : History) (k : ℕ) where
-  abbrev After : Bool → Bool → Option ℕ → ℕ → ℕ
-  After r o x i = cond r 1 (cond o (ago E k i) (pushed x (ago E k) i))
-
   ago_ones : restarts E k ≡ true → (i : ℕ) → ago E (suc k) i ≡ 1
-  ago_ones r i = ap (λ b. After b (off E k) (received (E k)) i) r
+  ago_ones r i = grind arith
 
   ago_off : restarts E k ≡ false → off E k ≡ true → (i : ℕ) → ago E (suc k) i ≡ ago E k i
-  ago_off r o i = ap (λ b. After b (off E k) (received (E k)) i) r ∙ ap (λ b. After false b (received (E k)) i) o
+  ago_off r o i = grind arith
 
   ago_none : restarts E k ≡ false → received (E k) ≡ None → (i : ℕ) → ago E (suc k) i ≡ ago E k i
-  ago_none r e i = ap (λ b. After b (off E k) (received (E k)) i) r ∙ ap (λ x. After false (off E k) x i) e ∙ go (off E k)
-    where
-      go : (o : Bool) → After false o None i ≡ ago E k i
-      go true = refl
-      go false = refl
+  ago_none r e i = grind arith
 
   ago_pushed : (b : ℕ) → restarts E k ≡ false → off E k ≡ false → received (E k) ≡ Some b → (i : ℕ) → ago E (suc k) i ≡ pushed (Some b) (ago E k) i
-  ago_pushed b r o e i = ap (λ b. After b (off E k) (received (E k)) i) r ∙ ap (λ b. After false b (received (E k)) i) o ∙ ap (λ x. pushed x (ago E k) i) e
+  ago_pushed b r o e i = grind arith
 
 -- where no bit changes, the last bits don't
 last_same : (E : History) (j k t : ℕ) → ((i : ℕ) → ago E j i ≡ ago E k i) → last_bits E j t ≡ last_bits E k t
@@ -120,11 +100,4 @@ nine E k = ap (bits_of 9) (omega arith) ∙ last_bits_of E k 9
 
 -- the last bits of a character, as many as it has, are the upper ones of the nine
 pub window_word : (E : History) (k : ℕ) (f : Form) → bits_of (total_bits f) (window E k / 2 ^ (9 - total_bits f)) ≡ last_bits E k (total_bits f)
-window_word E k SixEven = seven E k
-window_word E k SixOdd = seven E k
-window_word E k Seven = seven E k
-window_word E k Eight = eight E k
-window_word E k SevenEven = eight E k
-window_word E k SevenOdd = eight E k
-window_word E k EightEven = nine E k
-window_word E k EightOdd = nine E k
+window_word E k f = grind (arith, seven E k, eight E k, nine E k)

@@ -1,22 +1,21 @@
 -- Every written byte has one fate, and bytes are sent in rising numbers. Assumes nothing.
-use Rattle.std.proofs.Common.{◌≡◌, ℕ, zero, suc, ◌+◌, ◌<◌, ◌≤◌, Bool, true, false, cond, ◌||◌, ltb, ◌⊎◌, Some, None, Option, sym, refl, ap, ◌∙◌, subst, inl, inr, arith}
+use Rattle.std.proofs.Common.{◌≡◌, ℕ, zero, suc, ◌+◌, ◌<◌, ◌≤◌, Bool, true, false, cond, ltb, ◌⊎◌, Some, None, Option, sym, refl, ap, ◌∙◌, subst, inl, inr, arith}
 use native.Mathlib.Decide.{dec_lt}
-use Rattle.std.proofs.lemmas.Bool.{ltb-true, ltb-false, or_cases, or_parts, or_right}
+use Rattle.std.proofs.lemmas.Bool.{ltb-true, ltb-false, false≢true}
 use Rattle.serial.specs.Lives.{OneFate, Rising}
 use Rattle.serial.specs.Life.{Acts, Stands, enters, Left, was_displaced, was_taken, was_emptied}
 use Rattle.serial.specs.declared.life.Way.{Way}
-use Rattle.serial.specs.declared.life.Way.TheVariants.{Displaced as displaced, Taken as taken, Emptied as emptied}
+use Rattle.serial.specs.declared.life.Way.TheVariants.{Taken as taken}
 use Rattle.serial.proofs.Lifelines.{Lifelines, lives}
 use Rattle.serial.proofs.Standing as places
 use Rattle.history.specs.Events.{clocks}
-use Rattle.history.specs.Settings.{History, or_else, bit_of, to_c1, to_data, reset, cts, tx_reset, held, ResetsTransmitter, by_tx_rs, by_reset, Cuts, by_tx_reset, by_cts}
+use Rattle.history.specs.Settings.{History, bit_of, to_c1, to_data, reset, tx_reset, held, ResetsTransmitter, Cuts}
 use Rattle.history.specs.Lines.{limit, T, one_more, written, Writes, still, showing, next_word, holds, untouched, loaded, shown, Transmitter, Loads}
 use Rattle.history.specs.Law.{transmitting, LoadsByte, Shifts, Shown, last_bit, cut_off, Does, shows_a_bit, shows_the_last, cuts_it_off, Dropped, overwritten, cleared, Drops, by_the_next, by_a_reset, Ending, sent, cut, dropped, Ended, was_sent, was_cut, was_dropped, Going, waiting, shifting, GoesOn, waits, shifts}
 use Rattle.history.proofs.Acting.{way_no}
 use Rattle.history.proofs.Apart.{calm_clock}
 use Rattle.history.proofs.Calm.{held_same, low}
 use Rattle.history.proofs.Showing.{Came, by_load, as_before, by_clock, came, none_shown, earlier, word, same_word, no_word, shifted}
-use Rattle.history.proofs.Small.{false_true, cond_same}
 use Rattle.history.proofs.Transmitting.{transmit_act, transmitting_sane}
 
 module _ (E : History) where
@@ -43,27 +42,11 @@ module _ (E : History) where
 
   -- a hold of the transmitter begins by a reset, or by CTS
   tx_cut : (k : ℕ) → tx_reset E k ≡ false → tx_reset E (suc k) ≡ true → ResetsTransmitter E k
-  tx_cut k h g = go (reset E (suc k)) refl
-    where
-      high : (b : Bool) → reset E k ≡ b → reset E k ≡ true
-      high true e = e
-      high false e = false_true (sym h ∙ low (reset E) true (λ i. bit_of 1 (to_c1 E i)) k e)
-
-      byte : (o : Option Bool) → bit_of 1 (to_c1 E k) ≡ o → or_else o (tx_reset E k) ≡ true → ResetsTransmitter E k
-      byte None e f = false_true (sym h ∙ f)
-      byte (Some b) e f = by_tx_rs (e ∙ ap Some f)
-
-      go : (b : Bool) → reset E (suc k) ≡ b → ResetsTransmitter E k
-      go true e = byte (bit_of 1 (to_c1 E k)) refl (sym (ap (λ b. cond b (or_else (bit_of 1 (to_c1 E k)) (tx_reset E k)) true) e) ∙ g)
-      go false e = by_reset (high (reset E k) refl, e)
+  tx_cut k h g = grind (arith, low (reset E) true (λ i. bit_of 1 (to_c1 E i)) k)
 
   -- so a hold that begins cuts
   cuts : (k : ℕ) → held E k ≡ false → held E (suc k) ≡ true → Cuts E k
-  cuts k h g = let o = or_parts _ _ h in go o (or_cases _ _ g)
-    where
-      go : (tx_reset E k ≡ false) × (cts E k ≡ false) → (tx_reset E (suc k) ≡ true) ⊎ (cts E (suc k) ≡ true) → Cuts E k
-      go o (inl x) = by_tx_reset (tx_cut k o.0 x)
-      go o (inr x) = by_cts (o.1, x)
+  cuts k h g = grind (arith, tx_cut k)
 
   -- ONE STEP OF A LIFE
 
@@ -125,8 +108,7 @@ module _ (E : History) where
 
   -- who is dropped leaves the queue
   way : (k n : ℕ) (d : Dropped) → Drops E k n d → (w : Way) × Left Q k n w
-  way k n d (by_the_next l) = (displaced, l)
-  way k n d (by_a_reset l) = (emptied, l)
+  way k n d x = grind arith
 
   from_shift : (k n : ℕ) (d : Shown) → Does E k n d → Stood k n
   from_shift k n d x = let y = shifted E k n d x in inl (shifting, shifts y.0 y.1 y.2)
@@ -139,9 +121,7 @@ module _ (E : History) where
 
   -- a cut holds the transmitter
   pub cut_holds : (k : ℕ) → Cuts E k → held E (suc k) ≡ true
-  cut_holds k (by_tx_reset (by_tx_rs h)) = ap (λ b. b || cts E (suc k)) (ap (λ o. cond (reset E (suc k)) (or_else o (tx_reset E k)) true) h ∙ cond_same (reset E (suc k)) true)
-  cut_holds k (by_tx_reset (by_reset h)) = ap (λ b. b || cts E (suc k)) (ap (λ b. cond b (or_else (bit_of 1 (to_c1 E k)) (tx_reset E k)) true) h.1)
-  cut_holds k (by_cts h) = or_right _ _ h.1
+  cut_holds k c = grind arith
 
   -- so no word is shown after it
   cut_shows_none : (k l j : ℕ) → Cuts E k → Transmitter E (suc k) (showing l j) → ⊥
@@ -180,7 +160,7 @@ module _ (E : History) where
 
   -- a clock is no cut
   pub clock_no_cut : (k l j : ℕ) → Transmitter E k (showing l j) → clocks (E k) ≡ true → Cuts E k → ⊥
-  clock_no_cut k l j t c x = false_true (sym (word E k l j t).0 ∙ sym (held_same E k (calm_clock (E k) c)) ∙ cut_holds k x)
+  clock_no_cut k l j t c x = false≢true (sym (word E k l j t).0 ∙ sym (held_same E k (calm_clock (E k) c)) ∙ cut_holds k x)
 
   -- no two ends come together
   does_drop : (k n : ℕ) (s : Shown) (d : Dropped) → Does E k n s → Drops E k n d → ⊥
@@ -190,22 +170,11 @@ module _ (E : History) where
   last_cut k n (shows_the_last l j x c e) (cuts_it_off m i y d) = clock_no_cut k l j x.1 c d
 
   one_drop : (k n : ℕ) (c d : Dropped) → Drops E k n c → Drops E k n d → c ≡ d
-  one_drop k n c d (by_the_next l) (by_the_next m) = refl
-  one_drop k n c d (by_the_next l) (by_a_reset m) = absurd (omega (arith, two_ways k n _ _ l m))
-  one_drop k n c d (by_a_reset l) (by_the_next m) = absurd (omega (arith, two_ways k n _ _ l m))
-  one_drop k n c d (by_a_reset l) (by_a_reset m) = refl
+  one_drop k n c d x y = grind (arith, two_ways)
 
   -- so an end is one end
   one_fate : (k n : ℕ) (f g : Ending) → Ended E k n f → Ended E k n g → f ≡ g
-  one_fate k n f g (was_sent x) (was_sent y) = refl
-  one_fate k n f g (was_sent x) (was_cut y) = absurd (last_cut k n x y)
-  one_fate k n f g (was_sent x) (was_dropped d y) = absurd (does_drop k n last_bit d x y)
-  one_fate k n f g (was_cut x) (was_sent y) = absurd (last_cut k n y x)
-  one_fate k n f g (was_cut x) (was_cut y) = refl
-  one_fate k n f g (was_cut x) (was_dropped d y) = absurd (does_drop k n cut_off d x y)
-  one_fate k n f g (was_dropped c x) (was_sent y) = absurd (does_drop k n last_bit c y x)
-  one_fate k n f g (was_dropped c x) (was_cut y) = absurd (does_drop k n cut_off c y x)
-  one_fate k n f g (was_dropped c x) (was_dropped d y) = ap dropped (one_drop k n c d x y)
+  one_fate k n f g x y = grind (arith, last_cut, does_drop, one_drop)
 
   -- and who goes on does so in one way
   one_way : (k n : ℕ) (v w : Going) → GoesOn E k n v → GoesOn E k n w → v ≡ w
@@ -270,8 +239,7 @@ module _ (E : History) where
 
   -- an event that writes no byte and does not reset the transmitter drops nobody
   pub nobody_dropped : (k : ℕ) → ((n b : ℕ) → Writes E k n b → ⊥) → (ResetsTransmitter E k → ⊥) → (n : ℕ) (d : Dropped) → Drops E k n d → ⊥
-  nobody_dropped k unwritten unreset n d (by_the_next (was_displaced m h e)) = unwritten m e.0 e.1
-  nobody_dropped k unwritten unreset n d (by_a_reset (was_emptied p h e)) = unreset e
+  nobody_dropped k unwritten unreset n d x = grind arith
 
   -- where nothing is being shifted, or neither a clock nor a cut comes, nothing is done to it
   pub nothing_done : (k : ℕ) → ((n l j : ℕ) → Shifts E k n l j → (clocks (E k) ≡ true) ⊎ Cuts E k → ⊥) → (n : ℕ) (s : Shown) → Does E k n s → ⊥

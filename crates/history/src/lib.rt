@@ -1,4 +1,4 @@
-// Whole histories of one new adapter: a list of events replayed, and the law that its answers obey.
+//! Whole histories of one new adapter: a list of events replayed, and the law that its answers obey.
 #![tactic(auto)]
 
 ghost use Rattle.std.specs.Prelude.{◌≡◌, Ok};
@@ -12,14 +12,14 @@ use serial::slip::{Reply, Standing};
 use ssda::adapter::Adapter;
 use std::alloc::{AllocError, Global};
 
-// What a replay comes to: the answer to each event, in order, and who waits or is being shifted at the end.
+/// What a replay comes to: the answer to each event, in order, and who waits or is being shifted at the end.
 #[derive(Drop)]
 pub struct Replayed {
     pub answers: Vec<Result<Reply, Refusal>>,
     pub standing: Standing,
 }
 
-// Hands a list of events to one new adapter. Whatever the events, the law holds of the answers.
+/// Hands a list of events to one new adapter. Whatever the events, the law holds of the answers.
 pub fn replay(heap: Global, events: &[Event]) -> Result<Replayed, AllocError>
     ensures run { Replays events.now result }
     ensures law { EveryHistoryLawful }
@@ -35,8 +35,8 @@ fn answer_all(
     adapter: &mut Adapter,
     events: &[Event],
 ) -> Result<Vec<Result<Reply, Refusal>>, AllocError>
-    requires new { adapter.old.state ≡ new_state }
-    ensures answers { AnswersAll events.now result adapter.new.state }
+    requires new { adapter.old ≡ new_state }
+    ensures answers { AnswersAll events.now result adapter.new }
 {
     let mut answers = Vec::new(heap);
     for event in events {
@@ -47,8 +47,8 @@ fn answer_all(
 
 // One event handed to the adapter. What the event writes, if anything, is a byte.
 fn hand(adapter: &mut Adapter, event: Event) -> Result<Reply, Refusal>
-    ensures state { adapter.new.state ≡ stepped adapter.old.state event }
-    ensures answer { result ≡ answered adapter.old.state event }
+    ensures state { adapter.new ≡ stepped adapter.old event }
+    ensures answer { result ≡ answered adapter.old event }
     ensures byte { WritesByte event }
 {
     adapter.event(event)
@@ -56,7 +56,7 @@ fn hand(adapter: &mut Adapter, event: Event) -> Result<Reply, Refusal>
 
 // The answers to all events, with the question put at the end.
 fn conclude(events: &[Event], adapter: &Adapter, answers: Vec<Result<Reply, Refusal>>) -> Replayed
-    requires answered { AnswersAll events.now (Ok answers) adapter.now.state }
+    requires answered { AnswersAll events.now (Ok answers) adapter.now }
     ensures run { Replays events.now (Ok result) }
 {
     Replayed {
@@ -67,17 +67,17 @@ fn conclude(events: &[Event], adapter: &Adapter, answers: Vec<Result<Reply, Refu
 
 // A new adapter. Its promises bring the law to `replay`.
 fn begin() -> Adapter
-    ensures adapter { result.state ≡ new_state }
+    ensures adapter { result ≡ new_state }
     ensures law { EveryHistoryLawful }
 {
     Adapter::new()
 }
 
-// What holds of every history, without any condition:
-// - the rules settle every fate, whatever an adapter answers;
-// - the law leaves no choice: the history fixes what each answer tells;
-// - the interrupt in a reply is bit 7 of a Status read made next;
-// - the adapter's receiver and transmitter go by the rules of framing and sending, at every moment.
+/// What holds of every history, without any condition:
+/// - the rules settle every fate, whatever an adapter answers;
+/// - the law leaves no choice: the history fixes what each answer tells;
+/// - the interrupt in a reply is bit 7 of a Status read made next;
+/// - the adapter's receiver and transmitter go by the rules of framing and sending, at every moment.
 pub fn theorems()
     ensures settled { AllSettled }
     ensures pinned { Pinned }

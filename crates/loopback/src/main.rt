@@ -1,5 +1,5 @@
-// Sends an order over the line in each of the eight word forms, reads it back, then reads it with one bit
-// of every word flipped, and prints what came of it.
+//! Sends an order over the line in each of the eight word forms, reads it back, then reads it with one bit
+//! of every word flipped, and prints what came of it.
 #![tactic(auto)]
 
 mod tally;
@@ -7,7 +7,7 @@ mod words;
 
 use std::io::Read;
 use std::process::ExitCode;
-use tally::tabulate;
+use tally::{LIMIT, tabulate};
 
 // A run that fails says why in one sentence on standard error, and ends with exit status 1.
 fn main(rt: HostRuntime) -> ExitCode {
@@ -23,7 +23,7 @@ fn main(rt: HostRuntime) -> ExitCode {
 // Reads one byte more than an order may have, so that a longer one is noticed.
 fn run(rt: &HostRuntime) -> anyhow::Result<()> {
     let mut order = Vec::new(rt.alloc());
-    rt.stdin().take(4097).read_to_end(&mut order)?;
+    rt.stdin().take(LIMIT as u64 + 1).read_to_end(&mut order)?;
     let table = tabulate(rt.alloc(), order.as_slice())?;
     rt.print(&table)?;
     Ok(())

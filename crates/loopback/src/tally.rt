@@ -1,4 +1,4 @@
-// What comes of an order on the line, counted.
+//! What comes of an order on the line, counted.
 ghost use Rattle.std.specs.Prelude.{◌≡◌, ◌+◌, ◌*◌, ◌<◌, length};
 ghost use Rattle.serial.specs.Words.{total_bits};
 ghost use Rattle.loopback.specs.declared.tally.Fault.TheVariants.{NoMemory};
@@ -8,10 +8,10 @@ use serial::word::Form;
 use std::alloc::{AllocFailed, Global};
 use thiserror::Error;
 
-// The longest order, in bytes.
+/// The longest order, in bytes.
 pub const LIMIT: usize = 4096;
 
-// Why there is no tally or no table.
+/// Why there is no tally or no table.
 #[derive(Clone, Copy, Debug, PartialEq, Eq, Error)]
 pub enum Fault {
     #[error("The order is longer than {LIMIT} bytes, so nothing was sent.")]
@@ -28,8 +28,8 @@ impl<T: Drop> From<AllocFailed<T>> for Fault {
     }
 }
 
-// Words sent, their bits, how many were read back as their data bits with clean parity, and how many were
-// marked when one bit of each was flipped.
+/// Words sent, their bits, how many were read back as their data bits with clean parity, and how many were
+/// marked when one bit of each was flipped.
 #[derive(Clone, Copy, Debug, Default, PartialEq, Eq)]
 pub struct Tally {
     pub words: u32,
@@ -74,7 +74,7 @@ impl Tally {
     }
 }
 
-// An order over the line in one form; in the word at index i the bit at place i mod T is flipped.
+/// An order over the line in one form; in the word at index i the bit at place i mod T is flipped.
 pub fn exchange(form: Form, order: &[u8]) -> Result<Tally, Fault>
     ensures { result ≡ exchanged form order.now }
 {
@@ -89,21 +89,21 @@ pub fn exchange(form: Form, order: &[u8]) -> Result<Tally, Fault>
     Ok(tally)
 }
 
-// One line of the table: a form, and what came of the order in it.
+/// One line of the table: a form, and what came of the order in it.
 #[derive(Clone, Copy, Debug, PartialEq, Eq)]
 pub struct Row {
     pub form: Form,
     pub tally: Tally,
 }
 
-// The table: a row for each form, in the order of their select bits, and the total.
+/// The table: a row for each form, in the order of their select bits, and the total.
 #[derive(Drop)]
 pub struct Table {
     pub rows: Vec<Row>,
     pub total: Tally,
 }
 
-// An order over the line in each of the eight forms.
+/// An order over the line in each of the eight forms.
 pub fn tabulate(heap: Global, order: &[u8]) -> Result<Table, Fault>
     ensures { Tabled (length order.now) result }
 {

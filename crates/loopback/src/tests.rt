@@ -1,4 +1,4 @@
-// The same promises on the compiled code, at examples and at the limits.
+//! The same promises on the compiled code, at examples and at the limits.
 use crate::tally::{Fault, tabulate};
 use serial::account::Account;
 use serial::example::worked_examples;
@@ -67,34 +67,26 @@ fn the_account_counts_each_number_once(rt: HostRuntime) -> Result<(), Fail> {
         receive_slip(ReceiveCode::Nothing, 6, 7, 8),
         sending,
     ];
-    match Account::of(&slips) {
-        Ok(account) => {
-            assert_eq!(rt; account.delivered, 2);
-            assert_eq!(rt; account.received_cleared, 3);
-            assert_eq!(rt; account.lost, 0);
-            assert_eq!(rt; account.sent, 0);
-            Ok(())
-        }
-        Err(_) => Err(Fail::new("refused")),
-    }
+    let account = Account::of(&slips).ok().ok_or("refused")?;
+    assert_eq!(rt; account.delivered, 2);
+    assert_eq!(rt; account.received_cleared, 3);
+    assert_eq!(rt; account.lost, 0);
+    assert_eq!(rt; account.sent, 0);
+    Ok(())
 }
 
 // The first one is displaced by the second, which rises and is taken.
 #[test]
 fn a_life_is_told_move_by_move(rt: HostRuntime) -> Result<(), Fail> {
     let moves = [Move::Enter, Move::Enter, Move::Rise, Move::Take];
-    match live(rt.alloc(), &moves) {
-        Ok(life) => {
-            assert_eq!(rt; life.told.len(), 4);
-            assert!(rt; life.told[0].way.is_none());
-            assert_eq!(rt; life.told[1].way, Some(Way::Displaced));
-            assert_eq!(rt; life.told[1].who.first, 1);
-            assert!(rt; life.told[2].way.is_none());
-            assert_eq!(rt; life.told[3].way, Some(Way::Taken));
-            assert_eq!(rt; life.told[3].who.first, 2);
-            assert!(rt; life.standing.at(Place::Three).is_none());
-            Ok(())
-        }
-        Err(_) => Err(Fail::new("stopped")),
-    }
+    let life = live(rt.alloc(), &moves).ok().ok_or("stopped")?;
+    assert_eq!(rt; life.told.len(), 4);
+    assert!(rt; life.told[0].way.is_none());
+    assert_eq!(rt; life.told[1].way, Some(Way::Displaced));
+    assert_eq!(rt; life.told[1].who.first, 1);
+    assert!(rt; life.told[2].way.is_none());
+    assert_eq!(rt; life.told[3].way, Some(Way::Taken));
+    assert_eq!(rt; life.told[3].who.first, 2);
+    assert!(rt; life.standing.at(Place::Three).is_none());
+    Ok(())
 }

@@ -1,4 +1,4 @@
-// The table in words.
+//! The table in words.
 use crate::tally::{Row, Table};
 use std::fmt;
 

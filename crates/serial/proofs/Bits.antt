@@ -1,5 +1,5 @@
 -- Laws of lists of bits and of the numbers that they stand for. Assumes nothing.
-use Rattle.std.proofs.Common.{◌≡◌, ℕ, zero, suc, ◌+◌, ◌-◌, ◌*◌, ◌/◌, ◌%◌, ◌^◌, ◌<◌, ◌≤◌, eqb, ◌⊎◌, List, [], ◌∷◌, ◌++◌, length, get_or, take, sym, refl, ap, ◌∙◌, ap₂, inl, inr, le_of_suc-le-suc, mod-lt, mul_assoc, pow-suc, add-one, one-add, arith, lit<, pow_pos}
+use Rattle.std.proofs.Common.{◌≡◌, ℕ, zero, suc, ◌+◌, ◌-◌, ◌*◌, ◌/◌, ◌%◌, ◌^◌, ◌<◌, ◌≤◌, Bool, true, false, cond, eqb, ◌⊎◌, List, [], ◌∷◌, ◌++◌, length, get_or, take, sym, refl, ap, ◌∙◌, ap₂, inl, inr, le_of_suc-le-suc, mod-lt, mul_assoc, pow-suc, add-one, one-add, arith, lit<, pow_pos}
 use native.Mathlib.Nat.{mod-one}
 use lib.Bits.{bit_or, or_shifted_r, bit_xor, xor_step, xor_zero_r, differ}
 use lib.Count.{ones, ones_cat}
@@ -137,6 +137,11 @@ pub bits_take : (n : ℕ) (w : List ℕ) → Bits w → Bits (take n w)
 bits_take zero w h = none
 bits_take (suc n) [] h = none
 bits_take (suc n) (x ∷ xs) (more k ks) = more k (bits_take n xs ks)
+
+-- a bit as a number is 0 or 1
+pub below_two : (b : Bool) → cond b 1 0 < 2
+below_two true = omega arith
+below_two false = omega arith
 
 -- n bits of a byte with the bit x set above them, as one number, are those bits and then x
 pub value_with : (n b x : ℕ) → n ≤ 15 → x < 2 → bit_or (b % 2 ^ n) (x * 2 ^ n % 65536) ≡ value_of (bits_of n b ++ x ∷ [])

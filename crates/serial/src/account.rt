@@ -1,4 +1,4 @@
-// The account: how many characters and bytes met each fate, by a list of slips.
+//! The account: how many characters and bytes met each fate, by a list of slips.
 ghost use Rattle.std.specs.Prelude.{◌≡◌, ◌+◌, ◌≤◌};
 ghost use Rattle.serial.specs.Accounts.{receive_fate, queue_fate, shift_fate, none_yet, how_many, unless_zero, Within, counted, with_slip, accounted, CountsFields, AnyOrder, Joins};
 
@@ -6,7 +6,7 @@ use crate::event::Refusal;
 use crate::queue::Numbers;
 use crate::slip::{QueueCode, ReceiveCode, ShiftCode, Slip};
 
-// What becomes of a received character, and of a written byte, as a slip tells it.
+/// What becomes of a received character, and of a written byte, as a slip tells it.
 #[derive(Clone, Copy, Debug, PartialEq, Eq)]
 pub enum Fate {
     Delivered,
@@ -19,7 +19,7 @@ pub enum Fate {
     Cut,
 }
 
-// How many met each fate.
+/// How many met each fate.
 #[derive(Clone, Copy, Debug, Default, PartialEq, Eq)]
 pub struct Account {
     pub delivered: u32,
@@ -32,11 +32,11 @@ pub struct Account {
     pub cut: u32,
 }
 
-// The most slips of one account.
+/// The most slips of one account.
 pub const SLIP_LIMIT: usize = 65536;
 
 impl Account {
-    // Adds up the fates that these slips tell.
+    /// Adds up the fates that these slips tell.
     pub fn of(slips: &[Slip]) -> Result<Account, Refusal>
         ensures account { result ≡ accounted slips.now }
         ensures counts_fields { CountsFields }

@@ -1,8 +1,8 @@
-// Enums whose cases have numbers.
+//! Enums whose cases have numbers.
 ghost use Rattle.std.specs.Prelude.{◌≡◌, ℕ, Option};
 ghost use Rattle.serial.specs.Numbers.{Inverse};
 
-// A case of such an enum: its number, and the case that a number leads to.
+/// A case of such an enum: its number, and the case that a number leads to.
 pub trait Case: Copy {
     ghost number_of: { Self → ℕ };
 

@@ -1,10 +1,10 @@
-// What a serial part is given, and why it declines.
+//! What a serial part is given, and why it declines.
 ghost use Rattle.std.specs.Prelude.{◌≡◌, ◌<◌};
 ghost use Rattle.serial.specs.Events.{refusal_number, refusal_of, pin_of, bit_only, ranged, bit_event, character_events};
 
 use crate::case::Case;
 
-// A cycle of the bus. One for another chip is idle.
+/// A cycle of the bus. One for another chip is idle.
 #[derive(Clone, Copy, Debug, PartialEq, Eq)]
 pub enum Cycle {
     Idle,
@@ -12,7 +12,7 @@ pub enum Cycle {
     Write { rs: u8, byte: u8 },
 }
 
-// One thing that happens to a part, as the caller hands it over: every byte may come in every field.
+/// One thing that happens to a part, as the caller hands it over: every byte may come in every field.
 #[derive(Clone, Copy, Debug, PartialEq, Eq)]
 pub enum Event {
     Bus(Cycle),
@@ -21,7 +21,7 @@ pub enum Event {
     PinLevel { pin: u8, level: u8 },
 }
 
-// The pins that get a level.
+/// The pins that get a level.
 #[derive(Clone, Copy, Debug, PartialEq, Eq)]
 pub enum Pin {
     Reset,
@@ -29,7 +29,7 @@ pub enum Pin {
     Dcd,
 }
 
-// Why a call is declined.
+/// Why a call is declined.
 #[derive(Clone, Copy, Debug, PartialEq, Eq)]
 pub enum Refusal {
     NotABit = 1,
@@ -69,7 +69,7 @@ impl TryFrom<u8> for Pin {
 }
 
 impl Event {
-    // The eight received bits of a character, lowest first.
+    /// The eight received bits of a character, lowest first.
     pub fn character(byte: u8) -> [Event; 8]
         ensures { result ≡ character_events byte }
     {
@@ -85,7 +85,7 @@ impl Event {
         ]
     }
 
-    // Whether every field is in its range: first the pin, then bit, level and register select.
+    /// Whether every field is in its range: first the pin, then bit, level and register select.
     pub fn check_range(self) -> Result<(), Refusal>
         ensures { result ≡ ranged self }
     {

@@ -1,11 +1,11 @@
-// Worked examples: what is put on the line, and the bits that must be seen there.
+//! Worked examples: what is put on the line, and the bits that must be seen there.
 ghost use Rattle.std.specs.Prelude.{◌≡◌};
 ghost use Rattle.serial.specs.Words.{handed};
 ghost use Rattle.serial.specs.Examples.{line_of, examples, ExamplesHold};
 
 use crate::word::Form;
 
-// What is put on the line.
+/// What is put on the line.
 #[derive(Clone, Copy, Debug, PartialEq, Eq)]
 pub enum Sending {
     Word(Form, u8),
@@ -14,7 +14,7 @@ pub enum Sending {
 }
 
 impl Sending {
-    // The bits on the line, the first one lowest, and how many there are.
+    /// The bits on the line, the first one lowest, and how many there are.
     pub fn line(self) -> (u16, u8)
         ensures { result ≡ handed (line_of self) }
     {
@@ -26,7 +26,7 @@ impl Sending {
     }
 }
 
-// An example: what is sent, and the bits that must come, the first one lowest, with their count.
+/// An example: what is sent, and the bits that must come, the first one lowest, with their count.
 #[derive(Clone, Copy, Debug, PartialEq, Eq)]
 pub struct Example {
     pub sending: Sending,
@@ -34,7 +34,7 @@ pub struct Example {
     pub count: u8,
 }
 
-// The worked examples. Here the last bit on the line is written first.
+/// The worked examples. Here the last bit on the line is written first.
 pub fn worked_examples() -> [Example; 6]
     ensures table { result ≡ examples }
     ensures hold { ExamplesHold }

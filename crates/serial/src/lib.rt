@@ -1,5 +1,5 @@
-// What every serial part shares: the word forms of the line with worked examples; the three-place queue and its life; events,
-// refusals, slips and replies; enums whose cases have numbers; and the account.
+//! What every serial part shares: the word forms of the line with worked examples; the three-place queue and its life; events,
+//! refusals, slips and replies; enums whose cases have numbers; and the account.
 #![tactic(auto)]
 
 pub mod account;

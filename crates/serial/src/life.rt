@@ -1,4 +1,4 @@
-// A queue's life from its beginning: a list of moves carried out on a new queue, with all that it tells on the way.
+//! A queue's life from its beginning: a list of moves carried out on a new queue, with all that it tells on the way.
 ghost use Rattle.std.specs.Prelude.{◌≡◌, ◌+◌, ◌<◌};
 ghost use Rattle.serial.specs.declared.life.Stopped.TheVariants.{NoMemory};
 ghost use Rattle.serial.specs.Queue.{empty_queue};
@@ -8,7 +8,7 @@ ghost use Rattle.serial.specs.Lived.{Lives};
 use crate::queue::{Numbers, Queue};
 use std::alloc::{AllocFailed, Global};
 
-// What can happen to a queue. What enters gets the next number, from 1 on.
+/// What can happen to a queue. What enters gets the next number, from 1 on.
 #[derive(Clone, Copy, Debug, PartialEq, Eq)]
 pub enum Move {
     Enter,
@@ -18,7 +18,7 @@ pub enum Move {
     Nothing,
 }
 
-// How a thing leaves a queue.
+/// How a thing leaves a queue.
 #[derive(Clone, Copy, Debug, PartialEq, Eq)]
 pub enum Way {
     Displaced,
@@ -26,21 +26,21 @@ pub enum Way {
     Emptied,
 }
 
-// What a queue tells at one move: in which way things left, if any did, and their numbers.
+/// What a queue tells at one move: in which way things left, if any did, and their numbers.
 #[derive(Clone, Copy, Debug, Default, PartialEq, Eq)]
 pub struct Told {
     pub way: Option<Way>,
     pub who: Numbers,
 }
 
-// A whole life: what was told, move by move, and the numbers that stand at the end.
+/// A whole life: what was told, move by move, and the numbers that stand at the end.
 #[derive(Drop)]
 pub struct Life {
     pub told: Vec<Told>,
     pub standing: Queue<u32>,
 }
 
-// Why there is no life: more moves than there are numbers, or no memory for what is told.
+/// Why there is no life: more moves than there are numbers, or no memory for what is told.
 #[derive(Clone, Copy, Debug, PartialEq, Eq)]
 pub enum Stopped {
     TooMany,
@@ -55,7 +55,7 @@ impl<T: Drop> From<AllocFailed<T>> for Stopped {
     }
 }
 
-// Carries out a list of moves on a new queue.
+/// Carries out a list of moves on a new queue.
 pub fn live(heap: Global, moves: &[Move]) -> Result<Life, Stopped>
     ensures run { Lives moves.now result }
     ensures law { EveryLife }
@@ -115,7 +115,7 @@ fn tell(way: Way, who: Numbers) -> Told
     ensures { result ≡ tells way who }
 {
     Told {
-        way: if who.is_empty() { None } else { Some(way) },
+        way: (!who.is_empty()).then_some(way),
         who,
     }
 }

@@ -1,11 +1,12 @@
-// The three-place queue of each direction: things enter at place 1 and leave at place 3.
+//! The three-place queue of each direction: things enter at place 1 and leave at place 3.
 ghost use Rattle.std.specs.Prelude.{◌≡◌, ℕ, [], ◌∷◌, is_some};
 ghost use Rattle.std.specs.Option.{option_map, unwrap_or};
+ghost use Rattle.serial.specs.declared.queue.Place.TheVariants.{One, Three};
 ghost use Rattle.serial.specs.Queue.{standing_at, placed, empty_queue, entered, risen, lifted, output_taken, numbers_by, waiting, fields, fields_of, none_in, list_of, last_empty, LastEmpty, place_number, place_of};
 
 use crate::case::Case;
 
-// What a queue can hold: things that carry a number.
+/// What a queue can hold: things that carry a number.
 pub trait Numbered {
     ghost number: { Self → ℕ };
 
@@ -22,7 +23,7 @@ impl Numbered for u32 {
     }
 }
 
-// Place 1 is the input and place 3 the output.
+/// Place 1 is the input and place 3 the output.
 #[derive(Clone, Copy, Debug, PartialEq, Eq)]
 pub enum Place {
     One = 1,
@@ -40,7 +41,7 @@ impl Case for Place {
     }
 }
 
-// Up to three numbers, from the first field on, with zeros after them.
+/// Up to three numbers, from the first field on, with zeros after them.
 #[derive(Clone, Copy, Debug, Default, PartialEq, Eq)]
 pub struct Numbers {
     pub first: u32,
@@ -70,14 +71,14 @@ impl From<Option<u32>> for Numbers {
 }
 
 impl Numbers {
-    // The three fields in order.
+    /// The three fields in order.
     pub fn all(self) -> [u32; 3]
         ensures { result ≡ fields_of self }
     {
         [self.first, self.second, self.third]
     }
 
-    // Whether there is none: 0 in the first field.
+    /// Whether there is none: 0 in the first field.
     pub fn is_empty(self) -> bool
         ensures { result ≡ none_in self }
     {
@@ -93,7 +94,7 @@ pub struct Queue<T> {
 }
 
 impl<T: Numbered + Copy> Queue<T> {
-    // An empty queue.
+    /// An empty queue.
     pub fn new() -> Queue<T>
         ensures { result ≡ empty_queue }
     {
@@ -104,15 +105,15 @@ impl<T: Numbered + Copy> Queue<T> {
         }
     }
 
-    // Puts a thing into place 1, and answers what it displaces there. Nothing moves.
+    /// Puts a thing into place 1, and answers what it displaces there. Nothing moves.
     pub fn enter(&mut self, thing: T) -> Option<T>
         ensures queue { self.new ≡ entered self.old thing }
-        ensures displaced { result ≡ self.old.one }
+        ensures displaced { result ≡ standing_at self.old One }
     {
         self.one.replace(thing)
     }
 
-    // All things move up to the last empty places, in order.
+    /// All things move up to the last empty places, in order.
     pub fn rise(&mut self)
         ensures { self.new ≡ risen self.old }
     {
@@ -120,15 +121,15 @@ impl<T: Numbered + Copy> Queue<T> {
         self.lift(Place::One);
     }
 
-    // Takes what stands in place 3, if anything does. Nothing moves up.
+    /// Takes what stands in place 3, if anything does. Nothing moves up.
     pub fn take(&mut self) -> Option<T>
         ensures queue { self.new ≡ output_taken self.old }
-        ensures taken { result ≡ self.old.three }
+        ensures taken { result ≡ standing_at self.old Three }
     {
         self.three.take()
     }
 
-    // Empties the queue, and answers the numbers of what was in it, oldest first.
+    /// Empties the queue, and answers the numbers of what was in it, oldest first.
     pub fn clear(&mut self) -> Numbers
         ensures queue { self.new ≡ empty_queue }
         ensures cleared { result ≡ fields (waiting T.number self.old) }
@@ -143,7 +144,7 @@ impl<T: Numbered + Copy> Queue<T> {
         cleared
     }
 
-    // The number in each place.
+    /// The number in each place.
     pub fn numbers(&self) -> Queue<u32>
         ensures { result ≡ numbers_by T.number self.now }
     {
@@ -154,21 +155,21 @@ impl<T: Numbered + Copy> Queue<T> {
         }
     }
 
-    // Whether something stands in a place.
+    /// Whether something stands in a place.
     pub fn is_full(&self, place: Place) -> bool
         ensures { result ≡ is_some (standing_at self.now place) }
     {
         self.at(place).is_some()
     }
 
-    // What stands in place 3, which stays there.
+    /// What stands in place 3, which stays there.
     pub fn output(&self) -> Option<T>
-        ensures { result ≡ self.now.three }
+        ensures { result ≡ standing_at self.now Three }
     {
         self.at(Place::Three)
     }
 
-    // What stands in a place, which stays there.
+    /// What stands in a place, which stays there.
     pub fn at(&self, place: Place) -> Option<T>
         ensures { result ≡ standing_at self.now place }
     {
@@ -179,7 +180,7 @@ impl<T: Numbered + Copy> Queue<T> {
         }
     }
 
-    // The empty place with the highest number; none where all are full.
+    /// The empty place with the highest number; none where all are full.
     pub fn last_empty(&self) -> Option<Place>
         ensures place { result ≡ last_empty self.now }
         ensures law { LastEmpty self.now result }

@@ -1,11 +1,11 @@
-// What a part answers: a reply, and on it a slip that tells which characters an event concerned.
+//! What a part answers: a reply, and on it a slip that tells which characters an event concerned.
 ghost use Rattle.std.specs.Prelude.{◌≡◌};
 ghost use Rattle.serial.specs.Slips.{receive_number, receive_of, queue_number, queue_code_of, shift_number, shift_of, quiet_slip};
 
 use crate::case::Case;
 use crate::queue::{Numbers, Queue};
 
-// What happened to received characters.
+/// What happened to received characters.
 #[derive(Clone, Copy, Debug, Default, PartialEq, Eq)]
 pub enum ReceiveCode {
     #[default]
@@ -17,7 +17,7 @@ pub enum ReceiveCode {
     Cleared = 5,
 }
 
-// What happened to written bytes in the queue.
+/// What happened to written bytes in the queue.
 #[derive(Clone, Copy, Debug, Default, PartialEq, Eq)]
 pub enum QueueCode {
     #[default]
@@ -26,7 +26,7 @@ pub enum QueueCode {
     Cleared = 2,
 }
 
-// What happened to the byte that is being shifted: a bit of it, its last bit, so that it is sent, or a cut.
+/// What happened to the byte that is being shifted: a bit of it, its last bit, so that it is sent, or a cut.
 #[derive(Clone, Copy, Debug, Default, PartialEq, Eq)]
 pub enum ShiftCode {
     #[default]
@@ -36,7 +36,7 @@ pub enum ShiftCode {
     Cut = 3,
 }
 
-// Three codes, and the numbers that each is about; a field that is not used is 0.
+/// Three codes, and the numbers that each is about; a field that is not used is 0.
 #[derive(Clone, Copy, Debug, Default, PartialEq, Eq)]
 pub struct Slip {
     pub receive: ReceiveCode,
@@ -47,7 +47,7 @@ pub struct Slip {
     pub shifted: u32,
 }
 
-// The answer to an accepted event: the byte read or the bit sent, else 0; the signals after it; and the slip.
+/// The answer to an accepted event: the byte read or the bit sent, else 0; the signals after it; and the slip.
 #[derive(Clone, Copy, Debug, Default, PartialEq, Eq)]
 pub struct Reply {
     pub value: u8,
@@ -57,7 +57,7 @@ pub struct Reply {
     pub slip: Slip,
 }
 
-// Which numbers wait, place by place, in each direction, and which byte is being shifted.
+/// Which numbers wait, place by place, in each direction, and which byte is being shifted.
 #[derive(Clone, Copy, Debug, PartialEq, Eq)]
 pub struct Standing {
     pub received: Queue<u32>,
@@ -96,7 +96,7 @@ impl Case for ShiftCode {
 }
 
 impl Slip {
-    // The slip of an event that concerned no character.
+    /// The slip of an event that concerned no character.
     pub fn quiet() -> Slip
         ensures { result ≡ quiet_slip }
     {

@@ -1,11 +1,11 @@
-// The eight word forms: how a byte goes over the line as bits, and how bits are read as a byte.
-ghost use Rattle.std.specs.Prelude.{◌≡◌, ◌+◌, ◌%◌, ◌^◌, ◌<◌, false, [], ◌∷◌, ◌++◌};
+//! The eight word forms: how a byte goes over the line as bits, and how bits are read as a byte.
+ghost use Rattle.std.specs.Prelude.{◌≡◌, ◌+◌, ◌%◌, ◌^◌, ◌<◌, ◌==◌, cond, false, [], ◌∷◌, ◌++◌};
 ghost use Rattle.serial.specs.Numbers.{Inverse, numbered};
 ghost use Rattle.serial.specs.Words.{select_of, forms, form_of, data_bits, parity_of, total_bits, word_of, handed, value_of, ones_in, bits_of, marks, kept_of, read_of, same_bits, matches, sync_fill, mark_fill, flipped, read_flipped, OneWord, ReadsWords, ReadsBack, OneFlipMarks};
 
 use std::fmt;
 
-// Six, seven or eight data bits, bare or followed by a parity bit. Each form's number is that of its word select bits.
+/// Six, seven or eight data bits, bare or followed by a parity bit. Each form's number is that of its word select bits.
 #[derive(Clone, Copy, Debug, PartialEq, Eq)]
 pub enum Form {
     SixEven = 0b000,
@@ -18,7 +18,7 @@ pub enum Form {
     EightOdd = 0b111,
 }
 
-// What follows the data bits: nothing, or the bit that makes the count of ones even or odd.
+/// What follows the data bits: nothing, or the bit that makes the count of ones even or odd.
 #[derive(Clone, Copy, Debug, PartialEq, Eq)]
 pub enum Parity {
     Bare,
@@ -27,7 +27,7 @@ pub enum Parity {
 }
 
 impl Form {
-    // The eight forms, in the order of their select bits.
+    /// The eight forms, in the order of their select bits.
     pub fn all() -> [Form; 8]
         ensures { result ≡ forms }
     {
@@ -43,7 +43,7 @@ impl Form {
         ]
     }
 
-    // The form that the word select bits WS3 WS2 WS1 choose; none above 7.
+    /// The form that the word select bits WS3 WS2 WS1 choose; none above 7.
     pub fn from_select(select: u8) -> Option<Form>
         ensures form { result ≡ form_of select }
         ensures inverse { Inverse select_of form_of }
@@ -51,14 +51,14 @@ impl Form {
         selected(&Form::all(), select)
     }
 
-    // The word select bits that choose this form.
+    /// The word select bits that choose this form.
     pub fn select(self) -> u8
         ensures { result ≡ select_of self }
     {
         self as u8
     }
 
-    // How many data bits a word has.
+    /// How many data bits a word has.
     pub fn data_bits(self) -> u8
         ensures { result ≡ data_bits self }
     {
@@ -69,7 +69,7 @@ impl Form {
         }
     }
 
-    // What follows the data bits of a word.
+    /// What follows the data bits of a word.
     pub fn parity(self) -> Parity
         ensures { result ≡ parity_of self }
     {
@@ -80,7 +80,7 @@ impl Form {
         }
     }
 
-    // How many bits a word has with its parity.
+    /// How many bits a word has with its parity.
     pub fn total_bits(self) -> u8
         ensures { result ≡ total_bits self }
     {
@@ -90,26 +90,26 @@ impl Form {
         }
     }
 
-    // The word of a byte: its bits as a number, the first one on the line lowest, and how many there are.
+    /// The word of a byte: its bits as a number, the first one on the line lowest, and how many there are.
     pub fn pack(self, byte: u8) -> (u16, u8)
         ensures { result ≡ handed (word_of self byte) }
     {
         let data = self.data_of(u16::from(byte));
         match self.parity() {
             Parity::Bare => (data.lowest(), data.count),
-            Parity::Even => (data.append(data.odd_ones()), data.count + 1),
-            Parity::Odd => (data.append(1 - data.odd_ones()), data.count + 1),
+            Parity::Even => (data.append(data.is_odd()), data.count + 1),
+            Parity::Odd => (data.append(!data.is_odd()), data.count + 1),
         }
     }
 
-    // What the form takes of a byte: its data bits, with zeros above them.
+    /// What the form takes of a byte: its data bits, with zeros above them.
     pub fn keep(self, byte: u8) -> u8
         ensures { result ≡ kept_of self byte }
     {
         self.data_of(u16::from(byte)).lowest() as u8
     }
 
-    // A word read: its data bits, with zeros above them, and its parity mark. Bits past the word's last don't matter.
+    /// A word read: its data bits, with zeros above them, and its parity mark. Bits past the word's last don't matter.
     pub fn unpack(self, word: u16) -> (u8, bool)
         ensures { result ≡ read_of self (bits_of (total_bits self) word) }
     {
@@ -117,14 +117,14 @@ impl Form {
         (data, self.parity().marks(self.word_in(word)))
     }
 
-    // Whether a word matches the sync code: its oldest bits, at most eight, are the code's lowest.
+    /// Whether a word matches the sync code: its oldest bits, at most eight, are the code's lowest.
     pub fn matches(self, word: u16, code: u8) -> bool
         ensures { result ≡ matches self code (bits_of (total_bits self) word) }
     {
         same_lowest(word, u16::from(code), self.total_bits().min(8))
     }
 
-    // What goes out for want of a byte, if sync fill is chosen: the sync code.
+    /// What goes out for want of a byte, if sync fill is chosen: the sync code.
     pub fn sync_fill(self, code: u8) -> (u16, u8)
         ensures { result ≡ handed (sync_fill self code) }
     {
@@ -136,7 +136,7 @@ impl Form {
         }
     }
 
-    // What goes out for want of a byte otherwise: ones.
+    /// What goes out for want of a byte otherwise: ones.
     pub fn mark_fill(self) -> (u16, u8)
         ensures { result ≡ handed (mark_fill self) }
     {
@@ -144,7 +144,7 @@ impl Form {
         ((1 << total) - 1, total)
     }
 
-    // A byte sent and read back: its data bits, with clean parity.
+    /// A byte sent and read back: its data bits, with clean parity.
     pub fn read_back(self, byte: u8) -> (u8, bool)
         ensures value { result ≡ (kept_of self byte, false) }
         ensures one_word { OneWord }
@@ -154,7 +154,7 @@ impl Form {
         self.unpack(self.send(byte))
     }
 
-    // A byte sent and read back with one bit flipped on the line; none where the word has no bit at that place.
+    /// A byte sent and read back with one bit flipped on the line; none where the word has no bit at that place.
     pub fn read_flipped(self, byte: u8, place: u8) -> Option<(u8, bool)>
         ensures value { result ≡ read_flipped self byte place }
         ensures one_flip_marks { OneFlipMarks }
@@ -223,8 +223,8 @@ impl Parity {
     {
         match self {
             Parity::Bare => false,
-            Parity::Even => word.odd_ones() == 1,
-            Parity::Odd => word.odd_ones() == 0,
+            Parity::Even => word.is_odd(),
+            Parity::Odd => !word.is_odd(),
         }
     }
 }
@@ -246,19 +246,19 @@ impl Bits {
         self.value % (1 << self.count)
     }
 
-    // 1 where the count of ones among them is odd, else 0.
-    fn odd_ones(self) -> u16
-        ensures { result ≡ ones_in (bits_of self.count self.value) % 2 }
+    // Whether the count of ones among them is odd.
+    fn is_odd(self) -> bool
+        ensures { result ≡ (ones_in (bits_of self.count self.value) % 2 == 1) }
     {
-        (self.lowest().count_ones() % 2) as u16
+        self.lowest().count_ones() % 2 == 1
     }
 
     // The number of these bits and one more above them.
-    fn append(self, bit: u16) -> u16
-        requires { (self.count < 15) × (bit < 2) }
-        ensures { result ≡ value_of (bits_of self.count self.value ++ bit ∷ []) }
+    fn append(self, bit: bool) -> u16
+        requires { self.count < 15 }
+        ensures { result ≡ value_of (bits_of self.count self.value ++ cond bit 1 0 ∷ []) }
     {
-        self.lowest() | bit << self.count
+        self.lowest() | u16::from(bit) << self.count
     }
 }
 

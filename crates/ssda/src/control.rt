@@ -1,10 +1,10 @@
-// The control registers: what each write leaves in them.
+//! The control registers: what each write leaves in them.
 ghost use Rattle.std.specs.Prelude.{◌≡◌, ◌<◌};
 ghost use Rattle.ssda.specs.Control.{bit_of, target_of, form_at, new_control, control_from, new_setup, from_c2, from_c3, control_under_reset, setup_under_reset};
 
 use serial::word::Form;
 
-// Where a write with RS 1 goes, by the address control bits AC2 AC1.
+/// Where a write with RS 1 goes, by the address control bits AC2 AC1.
 #[derive(Clone, Copy, Debug, PartialEq, Eq)]
 pub enum Target {
     C2,
@@ -13,7 +13,7 @@ pub enum Target {
     TransmitData,
 }
 
-// Control register 1.
+/// Control register 1.
 #[derive(Clone, Copy, Debug, PartialEq, Eq)]
 pub struct Control {
     pub(crate) target: Target,
@@ -25,7 +25,7 @@ pub struct Control {
     pub(crate) rx_reset: bool,
 }
 
-// What control registers 2 and 3 keep.
+/// What control registers 2 and 3 keep.
 #[derive(Clone, Copy, Debug, PartialEq, Eq)]
 pub struct Setup {
     pub(crate) eie: bool,

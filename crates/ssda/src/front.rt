@@ -1,4 +1,4 @@
-// The front: all of the adapter that never looks at a queue. It decides what is framed, and when a word is loaded.
+//! The front: all of the adapter that never looks at a queue. It decides what is framed, and when a word is loaded.
 ghost use Rattle.std.specs.Prelude.{◌≡◌, ◌+◌, ◌<◌};
 ghost use Rattle.std.specs.Fn.{FnOnceReturnsAtMut};
 ghost use Rattle.ssda.specs.Receiver.{bit_value};
@@ -12,7 +12,7 @@ use serial::event::{Cycle, Event, Refusal};
 // The most characters that are framed, and the most bytes that are written.
 pub(crate) const NUMBER_LIMIT: u32 = 16_000_000;
 
-// The levels of the pins; true is high.
+/// The levels of the pins; true is high.
 #[derive(Clone, Copy, Debug, PartialEq, Eq)]
 pub struct Pins {
     pub(crate) reset: bool,
@@ -52,7 +52,7 @@ impl Front {
     }
 
     // The receiver is off while Rx Rs is set, DCD is high or Clear Sync is set.
-    pub(crate) fn off(&self) -> bool
+    fn is_off(&self) -> bool
         ensures { result ≡ off_of self.now }
     {
         self.control.rx_reset || self.pins.dcd || self.control.clear_sync
@@ -64,13 +64,13 @@ impl Front {
         ensures external { result.external ≡ self.now.setup.external }
     {
         Mode {
-            off: self.off(),
+            off: self.is_off(),
             external: self.setup.external,
         }
     }
 
     // The transmitter is held while Tx Rs is set or CTS is high.
-    pub(crate) fn held(&self) -> bool
+    fn is_held(&self) -> bool
         ensures { result ≡ held_of self.now }
     {
         self.control.tx_reset || self.pins.cts
@@ -136,7 +136,7 @@ impl Front {
 
     // A byte written to transmit data gets the next number.
     pub(crate) fn count_write(&mut self) -> u32
-        requires room { self.old.written < 16000000 }
+        requires room { self.old.written < NUMBER_LIMIT }
         ensures front { self.new ≡ counted_write self.old }
         ensures number { result ≡ self.old.written + 1 }
     {
@@ -146,11 +146,11 @@ impl Front {
 
     // A received bit, and the character that it frames, if it frames one. Off, the receiver ignores it.
     pub(crate) fn hear(&mut self, bit: bool) -> Option<Character>
-        requires room { self.old.receiver.framed < 16000000 }
+        requires room { self.old.receiver.framed < NUMBER_LIMIT }
         ensures front { self.new ≡ heard_front self.old (bit_value bit) }
         ensures character { result ≡ framed_front self.old (bit_value bit) }
     {
-        if self.off() {
+        if self.is_off() {
             return None;
         }
         self.receiver.hear(bit, &self.setup, self.code)
@@ -217,8 +217,8 @@ impl Front {
         ensures { self.new ≡ settled_front before.now self.old }
     {
         let mode = self.mode();
-        let held = self.held();
+        let held = self.is_held();
         self.receiver.settle(before.mode(), mode);
-        self.timing.settle(before.held(), held);
+        self.timing.settle(before.is_held(), held);
     }
 }

@@ -1,4 +1,4 @@
-// The EF6852 synchronous serial data adapter. `adapter` has its calls; the other modules are its parts, whose methods are not public.
+//! The EF6852 synchronous serial data adapter. `adapter` has its calls; the other modules are its parts, whose methods are not public.
 #![tactic(auto)]
 
 pub mod adapter;

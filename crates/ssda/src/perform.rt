@@ -1,24 +1,33 @@
-// An accepted event, performed: the state after it, and the reply.
-ghost use Rattle.std.specs.Prelude.{◌≡◌, ◌≤◌, Ok};
+//! An accepted event, performed: the state after it, and the reply.
+ghost use Rattle.std.specs.Prelude.{◌≡◌, Ok};
+ghost use Rattle.serial.specs.Events.{pin_number};
 ghost use Rattle.ssda.specs.Front.{checked_by, written_room};
+ghost use Rattle.ssda.specs.Stepped.{stepped, answered};
 ghost use Rattle.ssda.specs.Perform.{performed, wrote_to, wrote_to_tells, pin_set, pin_tells, tells, reply_with, replied};
 
 use crate::control::Target;
 use crate::state::State;
 use crate::step::Told;
-use serial::event::{Cycle, Event, Pin};
+use serial::event::{Cycle, Event, Pin, Refusal};
 use serial::slip::Reply;
 
 impl State {
+    // An event: the reply, or a refusal that changes nothing.
+    pub(crate) fn handle(&mut self, event: Event) -> Result<Reply, Refusal>
+        ensures state { self.new ≡ stepped self.old event }
+        ensures answer { result ≡ answered self.old event }
+    {
+        self.front.check(event)?;
+        Ok(self.perform(event))
+    }
+
     // Performs an event that is not declined.
-    pub(crate) fn perform(&mut self, event: Event) -> Reply
+    fn perform(&mut self, event: Event) -> Reply
         requires { checked_by self.old.front event ≡ Ok tt }
         ensures state { self.new ≡ performed self.old event }
         ensures reply { result ≡ replied self.old event }
-        ensures few { self.new.front.receiver.count ≤ 8 }
     {
         let told = self.carry_out(event);
-        prove!(self.front.receiver.counted() <= 8);
         self.reply(told)
     }
 
@@ -36,7 +45,10 @@ impl State {
             Event::Bus(Cycle::Write { byte, .. }) => self.write_target(byte),
             Event::ReceivedBit(bit) => self.receive_bit(bit == 1),
             Event::TransmitClock => self.clock(),
-            Event::PinLevel { pin, level } => self.set_pin(pin, level == 1),
+            Event::PinLevel { pin, level } => match Pin::try_from(pin) {
+                Ok(pin) => self.set_pin(pin, level == 1),
+                Err(_) => unreachable!(),
+            },
         }
     }
 
@@ -61,16 +73,16 @@ impl State {
     }
 
     // A pin gets a level; the present one changes nothing.
-    fn set_pin(&mut self, pin: u8, high: bool) -> Told
-        ensures state { self.new ≡ pin_set self.old pin high }
-        ensures told { result ≡ pin_tells self.old pin high }
+    fn set_pin(&mut self, pin: Pin, high: bool) -> Told
+        ensures state { self.new ≡ pin_set self.old (pin_number pin) high }
+        ensures told { result ≡ pin_tells self.old (pin_number pin) high }
     {
         let pins = self.front.pins;
-        match Pin::try_from(pin) {
-            Ok(Pin::Reset) if high != pins.reset => self.change_reset(high),
-            Ok(Pin::Cts) if high != pins.cts => self.change_cts(high),
-            Ok(Pin::Dcd) if high != pins.dcd => self.change_dcd(high),
-            _ => Told::quiet(),
+        match pin {
+            Pin::Reset if high != pins.reset => self.change_reset(high),
+            Pin::Cts if high != pins.cts => self.change_cts(high),
+            Pin::Dcd if high != pins.dcd => self.change_dcd(high),
+            Pin::Reset | Pin::Cts | Pin::Dcd => Told::quiet(),
         }
     }
 

@@ -1,7 +1,8 @@
-// The receiver: it finds the sync code in the received bits and frames characters. It has no queue in it.
+//! The receiver: it finds the sync code in the received bits and frames characters. It has no queue in it.
 ghost use Rattle.std.specs.Prelude.{◌≡◌, ◌+◌, ◌<◌, ◌≤◌, not};
 ghost use Rattle.std.specs.Bool.{beq};
 ghost use Rattle.serial.specs.Words.{bits_of, total_bits};
+ghost use Rattle.ssda.specs.declared.front.TheConstants.{NUMBER_LIMIT};
 ghost use Rattle.ssda.specs.Receiver.{character_number, character_of, new_receiver, turn_of, bit_value, slid, followed, heard, framed_by, restarted, settled};
 
 use crate::control::Setup;
@@ -9,7 +10,7 @@ use serial::queue::Numbered;
 use serial::word::Form;
 use std::marker::Model;
 
-// What the receiver is doing: it searches for the sync code; it has seen one and expects a second; or it is in sync.
+/// What the receiver is doing: it searches for the sync code; it has seen one and expects a second; or it is in sync.
 #[derive(Clone, Copy, Debug, PartialEq, Eq)]
 pub enum Phase {
     Search,
@@ -17,15 +18,15 @@ pub enum Phase {
     InSync,
 }
 
-// What happens to the receiver: a bit, which ends a character or not, or a restart.
+/// What happens to the receiver: a bit, which ends a character or not, or a restart.
 #[derive(Clone, Copy, Debug, PartialEq, Eq)]
 pub enum LineEvent {
     Bit { ends: bool },
     Restart { external: bool },
 }
 
-// What follows from it: the phase, the bits counted toward a character, whether the sync match shows, and whether a
-// character is framed.
+/// What follows from it: the phase, the bits counted toward a character, whether the sync match shows, and whether a
+/// character is framed.
 #[derive(Clone, Copy, Debug, PartialEq, Eq)]
 pub struct Turn {
     phase: Phase,
@@ -34,7 +35,7 @@ pub struct Turn {
     framed: bool,
 }
 
-// A framed character: its number, its data bits and its parity mark.
+/// A framed character: its number, its data bits and its parity mark.
 #[derive(Clone, Copy, Debug, PartialEq, Eq)]
 pub struct Character {
     pub(crate) number: u32,
@@ -50,7 +51,7 @@ impl Numbered for Character {
     }
 }
 
-// The window has the last nine bits, the oldest lowest. At most eight bits are counted toward a character.
+/// The window has the last nine bits, the oldest lowest. At most eight bits are counted toward a character.
 #[derive(Clone, Copy, Debug, PartialEq, Eq)]
 pub struct Receiver {
     phase: Phase,
@@ -73,7 +74,10 @@ impl Model for Receiver {
     ghost inverse = { λ r. record { phase = r.phase; count = r.count; window = r.window; matched = r.matched; framed = r.framed } };
 }
 
-// How the receiver is set: whether it is off, and whether its sync is external.
+// Nine ones, as in a new window.
+const ALL_ONES: u16 = 511;
+
+/// How the receiver is set: whether it is off, and whether its sync is external.
 #[derive(Clone, Copy, Debug, PartialEq, Eq)]
 pub struct Mode {
     pub(crate) off: bool,
@@ -98,7 +102,7 @@ impl Receiver {
         Receiver {
             phase: Phase::Search,
             count: 0,
-            window: 511,
+            window: ALL_ONES,
             matched: false,
             framed: 0,
         }
@@ -128,7 +132,7 @@ impl Receiver {
 
     // A received bit while the receiver is on, and the character that it frames, if it frames one.
     pub(crate) fn hear(&mut self, bit: bool, setup: &Setup, code: u8) -> Option<Character>
-        requires room { self.old.framed < 16000000 }
+        requires room { self.old.framed < NUMBER_LIMIT }
         ensures receiver { self.new ≡ heard self.old (bit_value bit) setup.now.form code setup.now.one_sync }
         ensures character { result ≡ framed_by self.old (bit_value bit) setup.now.form code setup.now.one_sync }
     {
@@ -163,7 +167,7 @@ impl Receiver {
     fn restart(&mut self, external: bool)
         ensures { self.new ≡ restarted self.old external }
     {
-        self.window = 511;
+        self.window = ALL_ONES;
         let turn = self.decide(LineEvent::Restart { external }, false, false);
         self.follow(turn);
     }

@@ -1,4 +1,4 @@
-// The whole state of the adapter: the front, and beside it the queues, the word that is being shown and the flags.
+//! The whole state of the adapter: the front, and beside it the queues, the word that is being shown and the flags.
 ghost use Rattle.std.specs.Prelude.{◌≡◌};
 ghost use Rattle.ssda.specs.State.{new_state, rda_of, tdra_of, marked_of, conditions_of, interrupt_of, status_of, sm_dtr_of};
 ghost use Rattle.ssda.specs.Stepped.{standing_in};
@@ -10,7 +10,7 @@ use crate::transmitter::{Byte, Shift};
 use serial::queue::{Place, Queue};
 use serial::slip::Standing;
 
-// `last` is the byte that was taken last.
+/// `last` is the byte that was taken last.
 #[derive(Clone, Copy, Debug, PartialEq, Eq)]
 pub struct State {
     pub(crate) front: Front,

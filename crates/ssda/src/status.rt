@@ -1,21 +1,26 @@
-// What the adapter remembers for its Status, and the Status byte.
+//! What the adapter remembers for its Status, and the Status byte.
 ghost use Rattle.std.specs.Prelude.{◌≡◌, ◌^◌, ◌<◌, ◌≤◌, if◌then◌else◌};
-ghost use Rattle.ssda.specs.Status.{new_flags, after_loss, after_status_read, after_data_read, after_dcd_rise, after_cts_rise, after_underflow, after_c3, after_receiver_reset, after_transmitter_reset, status_byte, asks, sm_dtr};
+ghost use Rattle.ssda.specs.Status.{happened, status_read, data_read, new_flags, after_loss, after_status_read, after_data_read, after_dcd_rise, after_cts_rise, after_underflow, after_c3, after_receiver_reset, after_transmitter_reset, status_byte, asks, sm_dtr};
 
 use crate::control::{Control, Setup, bit_of};
 
-// What is stored until it is cleared. An armed flag is cleared by the next data read.
+/// What happened and is stored until it is cleared; armed, it is cleared by the next data read.
+#[derive(Clone, Copy, Debug, Default, PartialEq, Eq)]
+pub struct Stored {
+    pub(crate) set: bool,
+    pub(crate) armed: bool,
+}
+
+/// What is stored: a loss, a rise of DCD, a rise of CTS, a sync fill for want of a byte.
 #[derive(Clone, Copy, Debug, Default, PartialEq, Eq)]
 pub struct Flags {
-    pub(crate) overrun: bool,
-    pub(crate) overrun_armed: bool,
-    pub(crate) dcd: bool,
-    pub(crate) dcd_armed: bool,
+    pub(crate) overrun: Stored,
+    pub(crate) dcd: Stored,
     pub(crate) cts: bool,
     pub(crate) underflow: bool,
 }
 
-// The eight bits of Status but for the interrupt, with the stored CTS and DCD that the interrupt goes by.
+/// What Status and the interrupt go by, besides the flags.
 #[derive(Clone, Copy, Debug, PartialEq, Eq)]
 pub struct Conditions {
     pub(crate) rda: bool,
@@ -23,6 +28,33 @@ pub struct Conditions {
     pub(crate) dcd_high: bool,
     pub(crate) cts_high: bool,
     pub(crate) parity: bool,
+}
+
+impl Stored {
+    // It happens: it is stored, and an arm that it had is dropped.
+    fn happen(&mut self)
+        ensures { self.new ≡ happened }
+    {
+        *self = Stored {
+            set: true,
+            armed: false,
+        };
+    }
+
+    // A Status read arms it if it is stored.
+    fn read_status(&mut self)
+        ensures { self.new ≡ status_read self.old }
+    {
+        self.armed = self.armed || self.set;
+    }
+
+    // A data read clears it if it is armed, and drops the arm.
+    fn read_data(&mut self)
+        ensures { self.new ≡ data_read self.old }
+    {
+        self.set = self.set && !self.armed;
+        self.armed = false;
+    }
 }
 
 impl Flags {
@@ -37,32 +69,30 @@ impl Flags {
     pub(crate) fn lose(&mut self)
         ensures { self.new ≡ after_loss self.old }
     {
-        (self.overrun, self.overrun_armed) = (true, false);
+        self.overrun.happen();
     }
 
     // A Status read arms overrun if it shows it, and DCD if that is stored.
     pub(crate) fn read_status(&mut self)
         ensures { self.new ≡ after_status_read self.old }
     {
-        self.overrun_armed = self.overrun_armed || self.overrun;
-        self.dcd_armed = self.dcd_armed || self.dcd;
+        self.overrun.read_status();
+        self.dcd.read_status();
     }
 
     // A data read clears what is armed, and drops both arms.
     pub(crate) fn read_data(&mut self)
         ensures { self.new ≡ after_data_read self.old }
     {
-        self.overrun = self.overrun && !self.overrun_armed;
-        self.dcd = self.dcd && !self.dcd_armed;
-        self.overrun_armed = false;
-        self.dcd_armed = false;
+        self.overrun.read_data();
+        self.dcd.read_data();
     }
 
     // DCD rises: it is stored, and its arm is dropped.
     pub(crate) fn raise_dcd(&mut self)
         ensures { self.new ≡ after_dcd_rise self.old }
     {
-        (self.dcd, self.dcd_armed) = (true, false);
+        self.dcd.happen();
     }
 
     // CTS rises: it is stored.
@@ -91,10 +121,8 @@ impl Flags {
     pub(crate) fn reset_receiver(&mut self)
         ensures { self.new ≡ after_receiver_reset self.old }
     {
-        self.overrun = false;
-        self.overrun_armed = false;
-        self.dcd = false;
-        self.dcd_armed = false;
+        self.overrun = Stored::default();
+        self.dcd = Stored::default();
     }
 
     // A reset of the transmitter clears the underflow and the stored CTS.
@@ -115,7 +143,11 @@ pub(crate) fn interrupt(
 ) -> bool
     ensures { result ≡ asks control setup flags conditions }
 {
-    let errors = flags.underflow || flags.overrun || conditions.parity || flags.cts || flags.dcd;
+    let errors = flags.underflow
+        || flags.overrun.set
+        || conditions.parity
+        || flags.cts
+        || flags.dcd.set;
     (control.rie && conditions.rda) || (control.tie && conditions.tdra) || (setup.eie && errors)
 }
 
@@ -125,10 +157,10 @@ pub(crate) fn status_byte(flags: Flags, conditions: Conditions, interrupt: bool)
 {
     bit_if(conditions.rda, 0)
         + bit_if(conditions.tdra, 1)
-        + bit_if(flags.dcd || conditions.dcd_high, 2)
+        + bit_if(flags.dcd.set || conditions.dcd_high, 2)
         + bit_if(flags.cts || conditions.cts_high, 3)
         + bit_if(flags.underflow, 4)
-        + bit_if(flags.overrun, 5)
+        + bit_if(flags.overrun.set, 5)
         + bit_if(conditions.parity, 6)
         + bit_if(interrupt, 7)
 }

@@ -1,6 +1,7 @@
-// What each accepted event does to the state, and what it tells.
-ghost use Rattle.std.specs.Prelude.{◌≡◌, ◌<◌};
+//! What each accepted event does to the state, and what it tells.
+ghost use Rattle.std.specs.Prelude.{◌≡◌, ◌<◌, true};
 ghost use Rattle.ssda.specs.Step.{told_of, idled, status_was_read, status_told, data_was_read, data_told, took_in, bit_told, data_was_written, write_told, with_character, loss_told, tell_receive, tell_queue, delivered, tell_shift, cut_state, cut_told, receiver_reset_if, receiver_reset_told, transmitter_reset_if, transmitter_reset_told, c1_was_written, c1_told, fell_under_reset, reset_told, reset_changed, reset_change_told, c3_was_written, cts_changed, cts_told, dcd_changed, loaded_state, clocked, clock_told};
+ghost use Rattle.ssda.specs.declared.front.TheConstants.{NUMBER_LIMIT};
 ghost use Rattle.ssda.specs.Receiver.{bit_value};
 ghost use Rattle.ssda.specs.Transmitter.{underflows_for};
 ghost use Rattle.serial.specs.Slips.{quiet_slip};
@@ -11,8 +12,8 @@ use crate::state::State;
 use crate::transmitter::Byte;
 use serial::slip::{QueueCode, ReceiveCode, ShiftCode, Slip};
 
-// What an event tells besides the signals after it: the byte read or bit sent, the underflow pulse, and the slip.
-#[derive(Clone, Copy, Debug, PartialEq, Eq)]
+/// What an event tells besides the signals after it: the byte read or bit sent, the underflow pulse, and the slip.
+#[derive(Clone, Copy, Debug, Default, PartialEq, Eq)]
 pub struct Told {
     pub(crate) value: u8,
     pub(crate) underflow: bool,
@@ -24,7 +25,7 @@ impl Told {
     pub(crate) fn quiet() -> Told
         ensures { result ≡ told_of 0 quiet_slip }
     {
-        tell(0, Slip::quiet())
+        Told::default()
     }
 }
 
@@ -66,7 +67,7 @@ impl State {
 
     // A received bit.
     pub(crate) fn receive_bit(&mut self, bit: bool) -> Told
-        requires room { self.old.front.receiver.framed < 16000000 }
+        requires room { self.old.front.receiver.framed < NUMBER_LIMIT }
         ensures state { self.new ≡ took_in self.old (bit_value bit) }
         ensures told { result ≡ bit_told self.old (bit_value bit) }
     {
@@ -95,7 +96,7 @@ impl State {
 
     // A byte written to transmit data enters the transmit queue; what it displaces there is overwritten.
     pub(crate) fn write_data(&mut self, byte: u8) -> Told
-        requires room { self.old.front.written < 16000000 }
+        requires room { self.old.front.written < NUMBER_LIMIT }
         ensures state { self.new ≡ data_was_written self.old byte }
         ensures told { result ≡ write_told self.old }
     {
@@ -112,8 +113,12 @@ impl State {
         ensures told { result ≡ c1_told self.old byte }
     {
         let mut slip = Slip::quiet();
-        self.reset_receiver_if(bit_of(byte, 0), &mut slip);
-        self.reset_transmitter_if(bit_of(byte, 1), &mut slip);
+        if bit_of(byte, 0) {
+            self.reset_receiver(&mut slip);
+        }
+        if bit_of(byte, 1) {
+            self.reset_transmitter(&mut slip);
+        }
         self.front.write_c1(byte);
         tell(0, slip)
     }
@@ -137,8 +142,8 @@ impl State {
         ensures told { result ≡ reset_told self.old }
     {
         let mut slip = Slip::quiet();
-        self.reset_receiver_if(true, &mut slip);
-        self.reset_transmitter_if(true, &mut slip);
+        self.reset_receiver(&mut slip);
+        self.reset_transmitter(&mut slip);
         self.front.fall_under_reset();
         tell(0, slip)
     }
@@ -214,35 +219,31 @@ impl State {
         underflow
     }
 
-    // The receive queue is emptied, and overrun, the stored DCD and both arms are cleared.
-    fn reset_receiver_if(&mut self, written: bool, slip: &mut Slip)
-        ensures state { self.new ≡ receiver_reset_if written self.old }
-        ensures slip { slip.new ≡ receiver_reset_told written self.old slip.old }
+    // A reset of the receiver: its queue is emptied, and overrun, the stored DCD and both arms are cleared.
+    fn reset_receiver(&mut self, slip: &mut Slip)
+        ensures state { self.new ≡ receiver_reset_if true self.old }
+        ensures slip { slip.new ≡ receiver_reset_told true self.old slip.old }
     {
-        if written {
-            let cleared = self.receive.clear();
-            if !cleared.is_empty() {
-                slip.receive = ReceiveCode::Cleared;
-            }
-            slip.received = cleared;
-            self.flags.reset_receiver();
+        let cleared = self.receive.clear();
+        if !cleared.is_empty() {
+            slip.receive = ReceiveCode::Cleared;
         }
+        slip.received = cleared;
+        self.flags.reset_receiver();
     }
 
-    // The transmit queue is emptied, the byte that is being shifted is cut, and TUF and the stored CTS are cleared.
-    fn reset_transmitter_if(&mut self, written: bool, slip: &mut Slip)
-        ensures state { self.new ≡ transmitter_reset_if written self.old }
-        ensures slip { slip.new ≡ transmitter_reset_told written self.old slip.old }
+    // A reset of the transmitter: its queue is emptied, the byte that is being shifted is cut, and TUF and the stored CTS are cleared.
+    fn reset_transmitter(&mut self, slip: &mut Slip)
+        ensures state { self.new ≡ transmitter_reset_if true self.old }
+        ensures slip { slip.new ≡ transmitter_reset_told true self.old slip.old }
     {
-        if written {
-            let cleared = self.transmit.clear();
-            if !cleared.is_empty() {
-                slip.queue = QueueCode::Cleared;
-            }
-            slip.queued = cleared;
-            self.cut(slip);
-            self.flags.reset_transmitter();
+        let cleared = self.transmit.clear();
+        if !cleared.is_empty() {
+            slip.queue = QueueCode::Cleared;
         }
+        slip.queued = cleared;
+        self.cut(slip);
+        self.flags.reset_transmitter();
     }
 
     // The byte that is being shifted, if one is, is cut.

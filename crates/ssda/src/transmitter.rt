@@ -1,11 +1,11 @@
-// The transmitter: when it loads a word, which word that is, and the bits that it shows.
+//! The transmitter: when it loads a word, which word that is, and the bits that it shows.
 ghost use Rattle.std.specs.Prelude.{◌≡◌};
 ghost use Rattle.ssda.specs.Transmitter.{loads_at, ticked, timing_after, byte_number, empty_shift, word_for, underflows_for, shifted_on, bit_shown, shifting_in};
 
 use crate::control::Setup;
 use serial::queue::Numbered;
 
-// A byte written to transmit data, with its number.
+/// A byte written to transmit data, with its number.
 #[derive(Clone, Copy, Debug, PartialEq, Eq)]
 pub struct Byte {
     pub(crate) number: u32,
@@ -20,7 +20,7 @@ impl Numbered for Byte {
     }
 }
 
-// Where the transmitter is: held; starting, so that the next clock loads; or showing a word, with so many bits to come.
+/// Where the transmitter is: held; starting, so that the next clock loads; or showing a word, with so many bits to come.
 #[derive(Clone, Copy, Debug, PartialEq, Eq)]
 pub enum Timing {
     Held,
@@ -28,7 +28,7 @@ pub enum Timing {
     Showing { left: u8 },
 }
 
-// The word that is being shown: the bits to come, the next one lowest, and the number of the byte, none for a fill.
+/// The word that is being shown: the bits to come, the next one lowest, and the number of the byte, none for a fill.
 #[derive(Clone, Copy, Debug, Default, PartialEq, Eq)]
 pub struct Shift {
     pub(crate) bits: u16,

@@ -1,7 +1,7 @@
 use Rattle.std.proofs.Common.{◌≡◌}
-use Rattle.bench.specs.Bench.{seen_at, clocks}
+use Rattle.bench.specs.Bench.{clocks}
 use Rattle.bench.proofs.bench.Bench.clocks.Given as goal
 
 -- so far: these clocks were given
 abbrev pub invariant-loop-turn : goal.invariant-loop-turn
-invariant-loop-turn l = seen_at l.self ≡ clocks (seen_at l.initial.self) l._turn
+invariant-loop-turn l = l.self ≡ clocks l.initial.self l._turn
