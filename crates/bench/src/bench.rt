@@ -12,6 +12,7 @@ use std::marker::Model;
 // The bits on the line take one more only below this, so at most 31 bits fit.
 const LINE_LIMIT: u32 = 1 << 30;
 
+/// An adapter with what is seen at it. A contract sees it as `Seen`.
 #[derive(Drop)]
 pub struct Bench {
     adapter: Adapter,

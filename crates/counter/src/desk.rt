@@ -26,6 +26,7 @@ pub enum Fault {
     NoMemory,
 }
 
+// Written by hand, since a derived `From` has no contract.
 impl From<Refusal> for Fault {
     ghost from_gives = { λ x r. r ≡ Declined x };
 
@@ -42,6 +43,7 @@ impl<T: Drop> From<AllocFailed<T>> for Fault {
     }
 }
 
+/// An adapter, and the slips of all events that it was handed. A contract sees both as `Kept`.
 #[derive(Drop)]
 pub struct Desk {
     adapter: Adapter,

@@ -1,7 +1,7 @@
 //! The story: a screen, a logger and a doser share one adapter, while an order comes over the line.
 ghost use Rattle.counter.specs.Story.{Goes};
 
-/// What happens next. The bus is idle for the adapter while the screen redraws.
+/// What happens next. The bus is idle for the adapter while the screen redraws. A register select is a byte, as a cycle of the bus takes it.
 #[derive(Clone, Copy, Debug, PartialEq, Eq)]
 pub enum Step {
     Write { rs: u8, byte: u8 },

@@ -73,7 +73,7 @@ fn begin() -> Adapter
     Adapter::new()
 }
 
-/// What holds of every history, without any condition:
+/// Does nothing: its contract states what holds of every history, without any condition:
 /// - the rules settle every fate, whatever an adapter answers;
 /// - the law leaves no choice: the history fixes what each answer tells;
 /// - the interrupt in a reply is bit 7 of a Status read made next;

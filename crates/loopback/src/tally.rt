@@ -20,6 +20,7 @@ pub enum Fault {
     NoMemory,
 }
 
+// Written by hand, since a derived `From` has no contract.
 impl<T: Drop> From<AllocFailed<T>> for Fault {
     ghost from_gives = { λ _ r. r ≡ NoMemory };
 
@@ -39,6 +40,7 @@ pub struct Tally {
 }
 
 impl Tally {
+    /// Nothing counted yet.
     pub fn new() -> Tally
         ensures { result ≡ record { words = 0; bits = 0; clean = 0; marked = 0 } }
     {

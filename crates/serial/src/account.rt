@@ -92,6 +92,7 @@ impl Account {
     }
 }
 
+// Three tables of their own, one for each code; nothing but the type of the answer is common to them.
 impl ReceiveCode {
     // The fate that the code tells, marked or not.
     fn fate(self) -> Option<Fate>
@@ -132,7 +133,7 @@ impl ShiftCode {
     }
 }
 
-// How many of three numbers are not 0.
+// How many of three numbers are not 0. Written out, since the check proves nothing of a sum over them.
 fn how_many(numbers: Numbers) -> u32
     ensures { result ≡ how_many numbers }
 {

@@ -8,7 +8,7 @@ pub trait Case: Copy {
 
     ghost case_of: { ℕ → Option Self };
 
-    // The number of the case, which leads back to it.
+    /// The number of the case, which leads back to it.
     fn number(self) -> u8
         ensures number { result ≡ number_of self }
         ensures inverse { Inverse number_of case_of };

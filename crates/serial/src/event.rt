@@ -12,7 +12,7 @@ pub enum Cycle {
     Write { rs: u8, byte: u8 },
 }
 
-/// One thing that happens to a part, as the caller hands it over: every byte may come in every field.
+/// One thing that happens to a part, as the caller hands it over: by the rules every byte may come in every field, and one out of range is refused.
 #[derive(Clone, Copy, Debug, PartialEq, Eq)]
 pub enum Event {
     Bus(Cycle),
@@ -69,7 +69,8 @@ impl TryFrom<u8> for Pin {
 }
 
 impl Event {
-    /// The eight received bits of a character, lowest first.
+    /// The eight received bits of a character, lowest first. Written out, since the check proves nothing of an array that
+    /// a closure makes.
     pub fn character(byte: u8) -> [Event; 8]
         ensures { result ≡ character_events byte }
     {

@@ -27,6 +27,7 @@ pub enum Way {
 }
 
 /// What a queue tells at one move: in which way things left, if any did, and their numbers.
+/// Two fields, since the law of telling takes a code and the three numbers.
 #[derive(Clone, Copy, Debug, Default, PartialEq, Eq)]
 pub struct Told {
     pub way: Option<Way>,
@@ -47,6 +48,7 @@ pub enum Stopped {
     NoMemory,
 }
 
+// Written by hand, since a derived `From` has no contract.
 impl<T: Drop> From<AllocFailed<T>> for Stopped {
     ghost from_gives = { λ _ r. r ≡ NoMemory };
 

@@ -41,7 +41,7 @@ impl Case for Place {
     }
 }
 
-/// Up to three numbers, from the first field on, with zeros after them.
+/// Up to three numbers, from the first field on, with zeros after them: the rules of a slip name the fields, and 0 is an unused one.
 #[derive(Clone, Copy, Debug, Default, PartialEq, Eq)]
 pub struct Numbers {
     pub first: u32,
@@ -86,6 +86,7 @@ impl Numbers {
     }
 }
 
+/// A queue: place 1 is the input and place 3 the output. Three fields and no array, since the laws name them.
 #[derive(Clone, Copy, Debug, PartialEq, Eq)]
 pub struct Queue<T> {
     one: Option<T>,
@@ -94,7 +95,7 @@ pub struct Queue<T> {
 }
 
 impl<T: Numbered + Copy> Queue<T> {
-    /// An empty queue.
+    /// An empty queue. A derived `Default` would require one of the things in it.
     pub fn new() -> Queue<T>
         ensures { result ≡ empty_queue }
     {

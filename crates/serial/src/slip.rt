@@ -36,7 +36,7 @@ pub enum ShiftCode {
     Cut = 3,
 }
 
-/// Three codes, and the numbers that each is about; a field that is not used is 0.
+/// Three codes, and the numbers that each is about; by the rules of a slip a field that is not used is 0.
 #[derive(Clone, Copy, Debug, Default, PartialEq, Eq)]
 pub struct Slip {
     pub receive: ReceiveCode,
@@ -47,7 +47,7 @@ pub struct Slip {
     pub shifted: u32,
 }
 
-/// The answer to an accepted event: the byte read or the bit sent, else 0; the signals after it; and the slip.
+/// The answer to an accepted event: the byte read or the bit sent, by the rules of a reply else 0; the signals after it; and the slip.
 #[derive(Clone, Copy, Debug, Default, PartialEq, Eq)]
 pub struct Reply {
     pub value: u8,

@@ -90,7 +90,7 @@ impl Form {
         }
     }
 
-    /// The word of a byte: its bits as a number, the first one on the line lowest, and how many there are.
+    /// The word of a byte: its bits as a number, the first one on the line lowest, and how many there are. By the rules packing answers this pair.
     pub fn pack(self, byte: u8) -> (u16, u8)
         ensures { result ≡ handed (word_of self byte) }
     {
@@ -167,7 +167,8 @@ impl Form {
 
     // The data bits of a word.
     fn data_of(self, word: u16) -> Bits
-        ensures { (result.value ≡ word) × (result.count ≡ data_bits self) }
+        ensures value { result.value ≡ word }
+        ensures count { result.count ≡ data_bits self }
     {
         Bits {
             value: word,
@@ -177,7 +178,8 @@ impl Form {
 
     // All bits of a word.
     fn word_in(self, word: u16) -> Bits
-        ensures { (result.value ≡ word) × (result.count ≡ total_bits self) }
+        ensures value { result.value ≡ word }
+        ensures count { result.count ≡ total_bits self }
     {
         Bits {
             value: word,

@@ -1,5 +1,5 @@
 //! The adapter: a state in which at most eight bits are counted toward a character, and the calls on it.
-ghost use Rattle.std.specs.Prelude.{◌≡◌, Ok};
+ghost use Rattle.std.specs.Prelude.{◌≡◌, ◌≤◌, Ok};
 ghost use Rattle.serial.specs.declared.event.Event.TheVariants.{Bus, ReceivedBit, TransmitClock, PinLevel};
 ghost use Rattle.ssda.specs.State.{new_state};
 ghost use Rattle.ssda.specs.Stepped.{stepped, answered, UnchangedIfRefused, standing_in};
@@ -9,6 +9,7 @@ use serial::event::{Cycle, Event, Refusal};
 use serial::slip::{Reply, Standing};
 use std::marker::Model;
 
+/// The adapter. A contract sees it as its state.
 #[derive(Drop)]
 pub struct Adapter {
     state: State,
@@ -42,7 +43,7 @@ impl Adapter {
         ensures unchanged { UnchangedIfRefused result self.old self.new }
     {
         let answer = self.state.handle(event);
-        // Brings the receiver's own limit to the adapter.
+        // The receiver keeps the limit itself; this tells the check so.
         prove!(self.state.front.receiver.counted() <= 8);
         answer
     }
@@ -85,9 +86,11 @@ impl Adapter {
         self.event(Event::PinLevel { pin, level })
     }
 
-    /// Which numbers wait, place by place, and which byte is being shifted. The question changes nothing.
+    /// Which numbers wait, place by place, and which byte is being shifted. The question changes nothing. Whatever came before, at most eight
+    /// bits are counted toward a character.
     pub fn question(&self) -> Standing
-        ensures { result ≡ standing_in self.now }
+        ensures standing { result ≡ standing_in self.now }
+        ensures few { self.now.front.receiver.count ≤ 8 }
     {
         self.state.standing()
     }

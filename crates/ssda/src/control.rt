@@ -79,7 +79,7 @@ impl Control {
 }
 
 impl Setup {
-    // As in a new adapter: all 0.
+    // As in a new adapter: all 0. The form with select bits 000 is no natural default, so `Default` is not derived.
     pub(crate) fn new() -> Setup
         ensures { result ≡ new_setup }
     {

@@ -20,6 +20,7 @@ pub struct Pins {
     pub(crate) dcd: bool,
 }
 
+/// All of the adapter that never looks at a queue.
 #[derive(Clone, Copy, Debug, PartialEq, Eq)]
 pub struct Front {
     pub(crate) control: Control,
@@ -88,6 +89,7 @@ impl Front {
         }
     }
 
+    // The two checks differ in count, condition and refusal; what is common is one comparison.
     fn check_framed(&self) -> Result<(), Refusal>
         ensures { result ≡ framed_room self.now }
     {

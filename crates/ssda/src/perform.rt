@@ -1,4 +1,4 @@
-//! An accepted event, performed: the state after it, and the reply.
+//! An event handled: refused, or performed, with the state after it and the reply.
 ghost use Rattle.std.specs.Prelude.{◌≡◌, Ok};
 ghost use Rattle.serial.specs.Events.{pin_number};
 ghost use Rattle.ssda.specs.Front.{checked_by, written_room};

@@ -10,7 +10,7 @@ use crate::transmitter::{Byte, Shift};
 use serial::queue::{Place, Queue};
 use serial::slip::Standing;
 
-/// `last` is the byte that was taken last.
+/// The whole state. `last` is the byte that was taken last.
 #[derive(Clone, Copy, Debug, PartialEq, Eq)]
 pub struct State {
     pub(crate) front: Front,

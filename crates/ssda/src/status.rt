@@ -134,7 +134,7 @@ impl Flags {
     }
 }
 
-// Whether the adapter asks for an interrupt.
+// Whether the adapter asks for an interrupt. Its one caller has the four parts at hand.
 pub(crate) fn interrupt(
     control: Control,
     setup: Setup,
@@ -165,7 +165,7 @@ pub(crate) fn status_byte(flags: Flags, conditions: Conditions, interrupt: bool)
         + bit_if(interrupt, 7)
 }
 
-// The byte in which only the bit at this place is set, if the flag is, and else none.
+// A byte with only the bit at this place set if the flag is, else 0.
 fn bit_if(flag: bool, place: u8) -> u8
     requires { place < 8 }
     ensures value { result ≡ (if flag then 2 ^ place else 0) }

@@ -1,6 +1,8 @@
 //! What each accepted event does to the state, and what it tells.
 ghost use Rattle.std.specs.Prelude.{◌≡◌, ◌<◌, true};
 ghost use Rattle.ssda.specs.Step.{told_of, idled, status_was_read, status_told, data_was_read, data_told, took_in, bit_told, data_was_written, write_told, with_character, loss_told, tell_receive, tell_queue, delivered, tell_shift, cut_state, cut_told, receiver_reset_if, receiver_reset_told, transmitter_reset_if, transmitter_reset_told, c1_was_written, c1_told, fell_under_reset, reset_told, reset_changed, reset_change_told, c3_was_written, cts_changed, cts_told, dcd_changed, loaded_state, clocked, clock_told};
+ghost use Rattle.serial.specs.declared.queue.Place.TheVariants.{Three};
+ghost use Rattle.serial.specs.Queue.{standing_at};
 ghost use Rattle.ssda.specs.declared.front.TheConstants.{NUMBER_LIMIT};
 ghost use Rattle.ssda.specs.Receiver.{bit_value};
 ghost use Rattle.ssda.specs.Transmitter.{underflows_for};
@@ -65,7 +67,7 @@ impl State {
         }
     }
 
-    // A received bit.
+    // A received bit. Only some states have room for one more number, so that is asked here and tested once, in `check`.
     pub(crate) fn receive_bit(&mut self, bit: bool) -> Told
         requires room { self.old.front.receiver.framed < NUMBER_LIMIT }
         ensures state { self.new ≡ took_in self.old (bit_value bit) }
@@ -209,7 +211,7 @@ impl State {
     // The next word is loaded from the output. Answers whether that is an underflow.
     fn load(&mut self) -> bool
         ensures state { self.new ≡ loaded_state self.old }
-        ensures underflow { result ≡ underflows_for self.old.transmit.three self.old.front.setup.tx_sync }
+        ensures underflow { result ≡ underflows_for (standing_at self.old.transmit Three) self.old.front.setup.tx_sync }
     {
         let output = self.transmit.take();
         let underflow = self.shift.load(output, &self.front.setup, self.front.code);
@@ -219,7 +221,8 @@ impl State {
         underflow
     }
 
-    // A reset of the receiver: its queue is emptied, and overrun, the stored DCD and both arms are cleared.
+    // A reset of the receiver: its queue is emptied, and overrun, the stored DCD and both arms are cleared. The two resets differ in
+    // queue, code and flags, and only `reset_transmitter` cuts.
     fn reset_receiver(&mut self, slip: &mut Slip)
         ensures state { self.new ≡ receiver_reset_if true self.old }
         ensures slip { slip.new ≡ receiver_reset_told true self.old slip.old }
@@ -288,7 +291,7 @@ fn tell(value: u8, slip: Slip) -> Told
     }
 }
 
-// A slip that tells one received character.
+// A slip that tells one received character. This and `tell_queue` fill different fields, and a parameter for the field would be longer.
 fn tell_receive(receive: ReceiveCode, number: u32) -> Slip
     ensures { result ≡ tell_receive receive number }
 {
