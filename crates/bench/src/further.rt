@@ -7,7 +7,7 @@ use serial::event::Refusal;
 use serial::queue::Place;
 use serial::slip::{QueueCode, ReceiveCode, ShiftCode};
 
-// After an overrun the first two characters and the last one are delivered.
+// The scripts. What each shows is its title in the table below.
 const OVERRUN_KEEPS_ARRIVING: &[Line] = &[
     Line::Do(Act::Write { rs: 0, byte: 0x43 }),
     Line::Do(Act::Write { rs: 1, byte: 0x01 }),
@@ -32,7 +32,6 @@ const OVERRUN_KEEPS_ARRIVING: &[Line] = &[
     Line::Comes(Reading::Received(Field::First, 4)),
 ];
 
-// Overrun comes with place 1 full even while places 2 and 3 are empty.
 const OVERRUN_WITH_EMPTY_PLACES: &[Line] = &[
     Line::Do(Act::Write { rs: 0, byte: 0x43 }),
     Line::Do(Act::Write { rs: 1, byte: 0x01 }),
@@ -55,7 +54,6 @@ const OVERRUN_WITH_EMPTY_PLACES: &[Line] = &[
     Line::Comes(Reading::Byte(0x02)),
 ];
 
-// A second data read without an idle cycle repeats the last byte.
 const SECOND_READ_REPEATS: &[Line] = &[
     Line::Do(Act::Write { rs: 0, byte: 0x43 }),
     Line::Do(Act::Write { rs: 1, byte: 0x01 }),
@@ -80,7 +78,6 @@ const SECOND_READ_REPEATS: &[Line] = &[
     Line::Comes(Reading::Received(Field::First, 2)),
 ];
 
-// A data read without a Status read before it clears no overrun.
 const UNARMED_OVERRUN_STAYS: &[Line] = &[
     Line::Do(Act::Write { rs: 0, byte: 0x43 }),
     Line::Do(Act::Write { rs: 1, byte: 0x01 }),
@@ -102,7 +99,6 @@ const UNARMED_OVERRUN_STAYS: &[Line] = &[
     Line::Comes(Reading::Byte(0x02)),
 ];
 
-// While RESET is low EIE stays 0, whatever is written.
 const RESET_LOW_HOLDS_ERROR_ENABLE: &[Line] = &[
     Line::Do(Act::Pin { pin: 0, level: 0 }),
     Line::Do(Act::Write { rs: 1, byte: 0x80 }),
@@ -118,7 +114,6 @@ const RESET_LOW_HOLDS_ERROR_ENABLE: &[Line] = &[
     Line::Comes(Reading::Byte(0x88)),
 ];
 
-// While RESET is low PC1 and PC2 stay 0, so SM/DTR is high.
 const RESET_LOW_HOLDS_PIN_CONTROL: &[Line] = &[
     Line::Do(Act::Write { rs: 1, byte: 0x03 }),
     Line::Comes(Reading::SmDtr(false)),
@@ -134,7 +129,6 @@ const RESET_LOW_HOLDS_PIN_CONTROL: &[Line] = &[
     Line::Comes(Reading::SmDtr(false)),
 ];
 
-// While RESET is low external stays 0.
 const RESET_LOW_HOLDS_EXTERNAL: &[Line] = &[
     Line::Do(Act::Pin { pin: 0, level: 0 }),
     Line::Do(Act::Write { rs: 1, byte: 0x1c }),
@@ -149,7 +143,6 @@ const RESET_LOW_HOLDS_EXTERNAL: &[Line] = &[
     Line::Comes(Reading::Waiting(Place::One, Some(1))),
 ];
 
-// While RESET is low the sync code, Tx Sync and the form are written as ever.
 const RESET_LOW_WRITES_THE_REST: &[Line] = &[
     Line::Do(Act::Pin { pin: 0, level: 0 }),
     Line::Do(Act::Write { rs: 0, byte: 0x80 }),
@@ -166,7 +159,6 @@ const RESET_LOW_WRITES_THE_REST: &[Line] = &[
     Line::Comes(Reading::Byte(0x12)),
 ];
 
-// While RESET is low a 0 written to Tx Rs empties nothing and a 1 empties.
 const RESET_LOW_IGNORES_ZERO_FOR_TRANSMITTER: &[Line] = &[
     Line::Do(Act::Pin { pin: 0, level: 0 }),
     Line::Do(Act::Write { rs: 0, byte: 0xc0 }),
@@ -184,7 +176,6 @@ const RESET_LOW_IGNORES_ZERO_FOR_TRANSMITTER: &[Line] = &[
     Line::Comes(Reading::Queued(Field::First, 0)),
 ];
 
-// RESET falling tells received, queued and shifted numbers together.
 const RESET_FALLING_TELLS_ALL: &[Line] = &[
     Line::Do(Act::Write { rs: 0, byte: 0x43 }),
     Line::Do(Act::Write { rs: 1, byte: 0x01 }),
@@ -210,7 +201,6 @@ const RESET_FALLING_TELLS_ALL: &[Line] = &[
     Line::Comes(Reading::Shifted(1)),
 ];
 
-// One write resets the receiver and the transmitter.
 const BOTH_RESETS_IN_ONE_WRITE: &[Line] = &[
     Line::Do(Act::Write { rs: 0, byte: 0x43 }),
     Line::Do(Act::Write { rs: 1, byte: 0x01 }),
@@ -235,7 +225,6 @@ const BOTH_RESETS_IN_ONE_WRITE: &[Line] = &[
     Line::Comes(Reading::Byte(0x00)),
 ];
 
-// A transmitter reset clears three waiting bytes, oldest first.
 const TRANSMITTER_RESET_TELLS_THREE: &[Line] = &[
     Line::Do(Act::Write { rs: 0, byte: 0x43 }),
     Line::Do(Act::Write { rs: 1, byte: 0x01 }),
@@ -258,7 +247,6 @@ const TRANSMITTER_RESET_TELLS_THREE: &[Line] = &[
     Line::Comes(Reading::Byte(0x00)),
 ];
 
-// Writing a reset bit as 1 resets also when it was set already.
 const RESET_AGAIN_STILL_CLEARS: &[Line] = &[
     Line::Do(Act::Write { rs: 0, byte: 0xc3 }),
     Line::Do(Act::Write { rs: 1, byte: 0x55 }),
@@ -276,7 +264,6 @@ const RESET_AGAIN_STILL_CLEARS: &[Line] = &[
     Line::Comes(Reading::Byte(0x00)),
 ];
 
-// The last byte taken outlives a receiver reset and RESET.
 const LAST_BYTE_OUTLIVES_RESETS: &[Line] = &[
     Line::Do(Act::Write { rs: 0, byte: 0x43 }),
     Line::Do(Act::Write { rs: 1, byte: 0x01 }),
@@ -300,7 +287,6 @@ const LAST_BYTE_OUTLIVES_RESETS: &[Line] = &[
     Line::Comes(Reading::Byte(0xa7)),
 ];
 
-// In two-byte mode RDA needs places 2 and 3 full.
 const TWO_BYTE_RECEIVE: &[Line] = &[
     Line::Do(Act::Write { rs: 0, byte: 0x43 }),
     Line::Do(Act::Write { rs: 1, byte: 0x01 }),
@@ -326,7 +312,6 @@ const TWO_BYTE_RECEIVE: &[Line] = &[
     Line::Comes(Reading::Byte(0x02)),
 ];
 
-// In two-byte mode TDRA needs places 1 and 2 empty.
 const TWO_BYTE_TRANSMIT: &[Line] = &[
     Line::Do(Act::Write { rs: 0, byte: 0x43 }),
     Line::Do(Act::Write { rs: 1, byte: 0x01 }),
@@ -351,7 +336,6 @@ const TWO_BYTE_TRANSMIT: &[Line] = &[
     Line::Comes(Reading::Byte(0x02)),
 ];
 
-// A stripped character gets a number and is no loss.
 const STRIPPED_WITHOUT_PARITY: &[Line] = &[
     Line::Do(Act::Write { rs: 0, byte: 0x43 }),
     Line::Do(Act::Write { rs: 1, byte: 0x01 }),
@@ -377,7 +361,6 @@ const STRIPPED_WITHOUT_PARITY: &[Line] = &[
     Line::Comes(Reading::Received(Field::First, 2)),
 ];
 
-// With nine bits the parity bit does not matter for stripping.
 const STRIPPED_WITH_NINE_BITS: &[Line] = &[
     Line::Do(Act::Write { rs: 0, byte: 0x43 }),
     Line::Do(Act::Write { rs: 1, byte: 0x01 }),
@@ -403,7 +386,6 @@ const STRIPPED_WITH_NINE_BITS: &[Line] = &[
     Line::Comes(Reading::Received(Field::First, 3)),
 ];
 
-// Six bits with right odd parity are delivered without mark.
 const PARITY_RIGHT_SIX_ODD: &[Line] = &[
     Line::Do(Act::Write { rs: 0, byte: 0x43 }),
     Line::Do(Act::Write { rs: 1, byte: 0x01 }),
@@ -426,7 +408,6 @@ const PARITY_RIGHT_SIX_ODD: &[Line] = &[
     Line::Comes(Reading::Received(Field::First, 1)),
 ];
 
-// Six bits with wrong even parity are delivered with the mark.
 const PARITY_WRONG_SIX_EVEN: &[Line] = &[
     Line::Do(Act::Write { rs: 0, byte: 0x43 }),
     Line::Do(Act::Write { rs: 1, byte: 0x01 }),
@@ -451,7 +432,6 @@ const PARITY_WRONG_SIX_EVEN: &[Line] = &[
     Line::Comes(Reading::Byte(0x02)),
 ];
 
-// Status bit 6 shows the mark of the character in place 3 only.
 const PARITY_MARK_ONLY_OF_PLACE_THREE: &[Line] = &[
     Line::Do(Act::Write { rs: 0, byte: 0x43 }),
     Line::Do(Act::Write { rs: 1, byte: 0x01 }),
@@ -476,7 +456,6 @@ const PARITY_MARK_ONLY_OF_PLACE_THREE: &[Line] = &[
     Line::Comes(Reading::Received(Field::First, 2)),
 ];
 
-// A longer form written in the middle of a character ends it later.
 const FORM_LONGER_IN_THE_MIDDLE: &[Line] = &[
     Line::Do(Act::Write { rs: 0, byte: 0x43 }),
     Line::Do(Act::Write { rs: 1, byte: 0x01 }),
@@ -500,7 +479,6 @@ const FORM_LONGER_IN_THE_MIDDLE: &[Line] = &[
     Line::Comes(Reading::Received(Field::First, 1)),
 ];
 
-// A shorter form written in the middle of a character ends it at the next bit.
 const FORM_SHORTER_IN_THE_MIDDLE: &[Line] = &[
     Line::Do(Act::Write { rs: 0, byte: 0x43 }),
     Line::Do(Act::Write { rs: 1, byte: 0x01 }),
@@ -520,7 +498,6 @@ const FORM_SHORTER_IN_THE_MIDDLE: &[Line] = &[
     Line::Comes(Reading::Received(Field::First, 1)),
 ];
 
-// Changing external while the receiver is on restarts it.
 const EXTERNAL_CHANGED_RESTARTS: &[Line] = &[
     Line::Do(Act::Write { rs: 0, byte: 0x43 }),
     Line::Do(Act::Write { rs: 1, byte: 0x01 }),
@@ -543,7 +520,6 @@ const EXTERNAL_CHANGED_RESTARTS: &[Line] = &[
     Line::Comes(Reading::Received(Field::First, 1)),
 ];
 
-// Rewriting the same external does not restart the receiver.
 const EXTERNAL_SAME_GOES_ON: &[Line] = &[
     Line::Do(Act::Write { rs: 0, byte: 0x43 }),
     Line::Do(Act::Write { rs: 1, byte: 0x01 }),
@@ -567,7 +543,6 @@ const EXTERNAL_SAME_GOES_ON: &[Line] = &[
     Line::Comes(Reading::Received(Field::First, 1)),
 ];
 
-// While Clear Sync is set bits are ignored, and its end restarts the receiver.
 const CLEAR_SYNC_IGNORES_BITS: &[Line] = &[
     Line::Do(Act::Write { rs: 0, byte: 0x43 }),
     Line::Do(Act::Write { rs: 1, byte: 0x01 }),
@@ -588,7 +563,6 @@ const CLEAR_SYNC_IGNORES_BITS: &[Line] = &[
     Line::Comes(Reading::Byte(0xa5)),
 ];
 
-// A Status read and a data read clear the stored DCD, but the high level still shows.
 const DCD_STORED_AND_LEVEL: &[Line] = &[
     Line::Do(Act::Write { rs: 0, byte: 0x43 }),
     Line::Do(Act::Write { rs: 1, byte: 0x01 }),
@@ -607,7 +581,6 @@ const DCD_STORED_AND_LEVEL: &[Line] = &[
     Line::Comes(Reading::Byte(0x02)),
 ];
 
-// DCD rising again drops the arm.
 const DCD_RISING_DROPS_ARM: &[Line] = &[
     Line::Do(Act::Write { rs: 0, byte: 0x43 }),
     Line::Do(Act::Write { rs: 1, byte: 0x01 }),
@@ -628,7 +601,6 @@ const DCD_RISING_DROPS_ARM: &[Line] = &[
     Line::Comes(Reading::Byte(0x02)),
 ];
 
-// While DCD is high bits are ignored, and its fall restarts the receiver.
 const DCD_HIGH_IGNORES_BITS: &[Line] = &[
     Line::Do(Act::Write { rs: 0, byte: 0x43 }),
     Line::Do(Act::Write { rs: 1, byte: 0x01 }),
@@ -652,7 +624,6 @@ const DCD_HIGH_IGNORES_BITS: &[Line] = &[
     Line::Comes(Reading::Byte(0x06)),
 ];
 
-// A sync fill pulses underflow and sets TUF, and CTUF clears it.
 const UNDERFLOW_AND_CLEAR: &[Line] = &[
     Line::Do(Act::Write { rs: 0, byte: 0x43 }),
     Line::Do(Act::Write { rs: 1, byte: 0x01 }),
@@ -678,7 +649,6 @@ const UNDERFLOW_AND_CLEAR: &[Line] = &[
     Line::Comes(Reading::Byte(0x12)),
 ];
 
-// With seven bits and parity the sync fill is the code alone.
 const SYNC_FILL_SEVEN_EVEN: &[Line] = &[
     Line::Do(Act::Write { rs: 0, byte: 0x83 }),
     Line::Do(Act::Write { rs: 1, byte: 0x16 }),
@@ -691,7 +661,6 @@ const SYNC_FILL_SEVEN_EVEN: &[Line] = &[
     Line::Comes(Reading::Shift(ShiftCode::Nothing)),
 ];
 
-// A loaded word keeps its length when the form is changed.
 const WORD_KEEPS_LENGTH: &[Line] = &[
     Line::Do(Act::Write { rs: 0, byte: 0x43 }),
     Line::Do(Act::Write { rs: 1, byte: 0x01 }),
@@ -714,7 +683,6 @@ const WORD_KEEPS_LENGTH: &[Line] = &[
     Line::Comes(Reading::Underflow(true)),
 ];
 
-// Each bit of a sent byte has code 1, the last one code 2.
 const SENT_BYTE_CODES: &[Line] = &[
     Line::Do(Act::Write { rs: 0, byte: 0x43 }),
     Line::Do(Act::Write { rs: 1, byte: 0x01 }),
@@ -739,7 +707,6 @@ const SENT_BYTE_CODES: &[Line] = &[
     Line::Comes(Reading::Shifting(None)),
 ];
 
-// CTS rising cuts the byte that is being shifted, and held clocks show 1.
 const CTS_CUTS_SHIFTED_BYTE: &[Line] = &[
     Line::Do(Act::Write { rs: 0, byte: 0x43 }),
     Line::Do(Act::Write { rs: 1, byte: 0x01 }),
@@ -763,7 +730,6 @@ const CTS_CUTS_SHIFTED_BYTE: &[Line] = &[
     Line::Comes(Reading::Shift(ShiftCode::Nothing)),
 ];
 
-// CTS rising leaves the queue alone, and after its fall the next byte is sent.
 const CTS_KEEPS_QUEUE: &[Line] = &[
     Line::Do(Act::Write { rs: 0, byte: 0x43 }),
     Line::Do(Act::Write { rs: 1, byte: 0x01 }),
@@ -789,7 +755,6 @@ const CTS_KEEPS_QUEUE: &[Line] = &[
     Line::Comes(Reading::Shifted(2)),
 ];
 
-// CTS rising cuts also a byte of which no bit was shown, and tells nothing of a fill.
 const CTS_CUTS_LOADED_BYTE: &[Line] = &[
     Line::Do(Act::Write { rs: 0, byte: 0x43 }),
     Line::Do(Act::Write { rs: 1, byte: 0x01 }),
@@ -812,7 +777,6 @@ const CTS_CUTS_LOADED_BYTE: &[Line] = &[
     Line::Comes(Reading::Shifted(0)),
 ];
 
-// With external a high CTS leaves TDRA alone.
 const CTS_WITH_EXTERNAL_KEEPS_TDRA: &[Line] = &[
     Line::Do(Act::Write { rs: 0, byte: 0x43 }),
     Line::Do(Act::Write { rs: 1, byte: 0x01 }),
@@ -834,7 +798,6 @@ const CTS_WITH_EXTERNAL_KEEPS_TDRA: &[Line] = &[
     Line::Comes(Reading::Byte(0x02)),
 ];
 
-// CTS rising is stored also while Tx Rs is set, and a transmitter reset clears it.
 const CTS_STORED_WHILE_RESET: &[Line] = &[
     Line::Do(Act::Pin { pin: 1, level: 1 }),
     Line::Do(Act::Read { rs: 0 }),
@@ -850,7 +813,6 @@ const CTS_STORED_WHILE_RESET: &[Line] = &[
     Line::Comes(Reading::Byte(0x00)),
 ];
 
-// With no match SM/DTR is high only with PC2 PC1 00.
 const SM_DTR_SETTINGS: &[Line] = &[
     Line::Do(Act::Write { rs: 1, byte: 0x00 }),
     Line::Comes(Reading::SmDtr(true)),
@@ -864,7 +826,6 @@ const SM_DTR_SETTINGS: &[Line] = &[
     Line::Comes(Reading::SmDtr(true)),
 ];
 
-// A match is remembered whatever PC2 and PC1 are and shows until the next bit.
 const SM_DTR_MATCH_UNTIL_NEXT_BIT: &[Line] = &[
     Line::Do(Act::Write { rs: 0, byte: 0x43 }),
     Line::Do(Act::Write { rs: 1, byte: 0x02 }),
@@ -889,7 +850,6 @@ const SM_DTR_MATCH_UNTIL_NEXT_BIT: &[Line] = &[
     Line::Comes(Reading::SmDtr(false)),
 ];
 
-// A match shows no more when the receiver goes off.
 const SM_DTR_MATCH_ENDS_WITH_OFF: &[Line] = &[
     Line::Do(Act::Write { rs: 0, byte: 0x43 }),
     Line::Do(Act::Write { rs: 1, byte: 0x02 }),
@@ -912,7 +872,6 @@ const SM_DTR_MATCH_ENDS_WITH_OFF: &[Line] = &[
     Line::Comes(Reading::SmDtr(false)),
 ];
 
-// With RIE the interrupt follows RDA.
 const RECEIVER_INTERRUPT: &[Line] = &[
     Line::Do(Act::Write { rs: 0, byte: 0x43 }),
     Line::Do(Act::Write { rs: 1, byte: 0x01 }),
@@ -932,7 +891,6 @@ const RECEIVER_INTERRUPT: &[Line] = &[
     Line::Comes(Reading::Interrupt(false)),
 ];
 
-// With TIE the interrupt follows TDRA.
 const TRANSMITTER_INTERRUPT: &[Line] = &[
     Line::Do(Act::Write { rs: 0, byte: 0x43 }),
     Line::Do(Act::Write { rs: 1, byte: 0x01 }),
@@ -953,7 +911,6 @@ const TRANSMITTER_INTERRUPT: &[Line] = &[
     Line::Comes(Reading::Queue(QueueCode::Cleared)),
 ];
 
-// With EIE an overrun interrupts until a Status read and a data read.
 const OVERRUN_INTERRUPT: &[Line] = &[
     Line::Do(Act::Write { rs: 0, byte: 0x43 }),
     Line::Do(Act::Write { rs: 1, byte: 0x01 }),
@@ -974,7 +931,6 @@ const OVERRUN_INTERRUPT: &[Line] = &[
     Line::Comes(Reading::Byte(0x02)),
 ];
 
-// A RESET level equal to the present one resets nothing.
 const SAME_RESET_LEVEL: &[Line] = &[
     Line::Do(Act::Write { rs: 0, byte: 0x43 }),
     Line::Do(Act::Write { rs: 1, byte: 0x01 }),
@@ -999,7 +955,6 @@ const SAME_RESET_LEVEL: &[Line] = &[
     Line::Comes(Reading::Queued(Field::First, 2)),
 ];
 
-// A read with register select 2 is refused, takes nothing and moves nothing.
 const REFUSED_READ_SELECT: &[Line] = &[
     Line::Do(Act::Write { rs: 0, byte: 0x43 }),
     Line::Do(Act::Write { rs: 1, byte: 0x01 }),
@@ -1022,7 +977,6 @@ const REFUSED_READ_SELECT: &[Line] = &[
     Line::Comes(Reading::Received(Field::First, 1)),
 ];
 
-// A refused read neither clears nor drops an arm.
 const REFUSED_READ_KEEPS_ARM: &[Line] = &[
     Line::Do(Act::Write { rs: 0, byte: 0x43 }),
     Line::Do(Act::Write { rs: 1, byte: 0x01 }),
@@ -1041,7 +995,6 @@ const REFUSED_READ_KEEPS_ARM: &[Line] = &[
     Line::Comes(Reading::Byte(0x02)),
 ];
 
-// A write with register select 2 is refused, writes nothing and takes no number.
 const REFUSED_WRITE_SELECT: &[Line] = &[
     Line::Do(Act::Write { rs: 0, byte: 0x43 }),
     Line::Do(Act::Write { rs: 1, byte: 0x01 }),
@@ -1064,7 +1017,6 @@ const REFUSED_WRITE_SELECT: &[Line] = &[
     Line::Comes(Reading::Queued(Field::First, 2)),
 ];
 
-// A received bit 2 is refused and does not count.
 const REFUSED_BIT: &[Line] = &[
     Line::Do(Act::Write { rs: 0, byte: 0x43 }),
     Line::Do(Act::Write { rs: 1, byte: 0x01 }),
@@ -1089,7 +1041,6 @@ const REFUSED_BIT: &[Line] = &[
     Line::Comes(Reading::Byte(0x53)),
 ];
 
-// A pin level 2 is refused and changes no pin.
 const REFUSED_LEVEL: &[Line] = &[
     Line::Do(Act::Write { rs: 0, byte: 0x43 }),
     Line::Do(Act::Write { rs: 1, byte: 0x01 }),
@@ -1109,7 +1060,6 @@ const REFUSED_LEVEL: &[Line] = &[
     Line::Comes(Reading::Byte(0x02)),
 ];
 
-// A level on pin 3 is refused by 2 and changes nothing.
 const REFUSED_PIN: &[Line] = &[
     Line::Do(Act::Write { rs: 0, byte: 0x43 }),
     Line::Do(Act::Write { rs: 1, byte: 0x01 }),
@@ -1131,7 +1081,6 @@ const REFUSED_PIN: &[Line] = &[
     Line::Comes(Reading::Byte(0x41)),
 ];
 
-// Pin 3 with level 2 is refused by 2, pin 0 with level 2 by 1.
 const REFUSED_PIN_BEFORE_LEVEL: &[Line] = &[
     Line::Do(Act::Write { rs: 0, byte: 0x43 }),
     Line::Do(Act::Write { rs: 1, byte: 0x01 }),

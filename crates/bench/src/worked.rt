@@ -6,7 +6,7 @@ use crate::script::{Act, Example, Field, Line, Reading};
 use serial::queue::Place;
 use serial::slip::{QueueCode, ReceiveCode, ShiftCode};
 
-// 41h in 7 with even parity is 10000010.
+// The scripts. What each shows is its title in the table below.
 const SEVEN_WITH_EVEN: &[Line] = &[
     Line::Do(Act::Write { rs: 1, byte: 0x20 }),
     Line::Do(Act::Write { rs: 0, byte: 0xc1 }),
@@ -19,7 +19,6 @@ const SEVEN_WITH_EVEN: &[Line] = &[
     Line::Comes(Reading::Shifted(1)),
 ];
 
-// 41h in 7 with odd parity is 10000011.
 const SEVEN_WITH_ODD: &[Line] = &[
     Line::Do(Act::Write { rs: 1, byte: 0x28 }),
     Line::Do(Act::Write { rs: 0, byte: 0xc1 }),
@@ -30,7 +29,6 @@ const SEVEN_WITH_ODD: &[Line] = &[
     Line::Comes(Reading::Line(0b10000011)),
 ];
 
-// FFh in 6 with odd parity is 1111111.
 const SIX_WITH_ODD: &[Line] = &[
     Line::Do(Act::Write { rs: 1, byte: 0x08 }),
     Line::Do(Act::Write { rs: 0, byte: 0xc1 }),
@@ -41,7 +39,6 @@ const SIX_WITH_ODD: &[Line] = &[
     Line::Comes(Reading::Line(0b1111111)),
 ];
 
-// The sync fill 16h in form 000 is 0110100.
 const SYNC_FILL_OF_SEVEN: &[Line] = &[
     Line::Do(Act::Write { rs: 0, byte: 0x83 }),
     Line::Do(Act::Write { rs: 1, byte: 0x16 }),
@@ -54,7 +51,6 @@ const SYNC_FILL_OF_SEVEN: &[Line] = &[
     Line::Comes(Reading::Line(0b0110100)),
 ];
 
-// The sync fill 16h in form 110 is 011010001.
 const SYNC_FILL_OF_NINE: &[Line] = &[
     Line::Do(Act::Write { rs: 0, byte: 0x83 }),
     Line::Do(Act::Write { rs: 1, byte: 0x16 }),
@@ -67,7 +63,6 @@ const SYNC_FILL_OF_NINE: &[Line] = &[
     Line::Comes(Reading::Line(0b011010001)),
 ];
 
-// The mark fill in form 110 is nine ones, and TUF stays 0.
 const MARK_FILL: &[Line] = &[
     Line::Do(Act::Write { rs: 1, byte: 0x30 }),
     Line::Do(Act::Write { rs: 0, byte: 0x01 }),
@@ -79,7 +74,6 @@ const MARK_FILL: &[Line] = &[
     Line::Comes(Reading::Byte(0x02)),
 ];
 
-// A new Status is 00h; after C1 = 00h it is 02h, and after C1 = 10h 82h.
 const NEW_STATUS: &[Line] = &[
     Line::Do(Act::Read { rs: 0 }),
     Line::Comes(Reading::Byte(0x00)),
@@ -91,7 +85,6 @@ const NEW_STATUS: &[Line] = &[
     Line::Comes(Reading::Byte(0x82)),
 ];
 
-// Form 011, 1-sync, code 7Fh, restart, one bit 0: in sync.
 const ONE_BIT_TO_SYNC: &[Line] = &[
     Line::Do(Act::Write { rs: 0, byte: 0x83 }),
     Line::Do(Act::Write { rs: 1, byte: 0x7f }),
@@ -112,7 +105,6 @@ const ONE_BIT_TO_SYNC: &[Line] = &[
     Line::Comes(Reading::Received(Field::First, 1)),
 ];
 
-// Form 011, code 16h, two sync codes asked for: after 16h, 16h comes 41h as number 1.
 const TWO_SYNC_CODES: &[Line] = &[
     Line::Do(Act::Write { rs: 0, byte: 0x83 }),
     Line::Do(Act::Write { rs: 1, byte: 0x16 }),
@@ -130,7 +122,6 @@ const TWO_SYNC_CODES: &[Line] = &[
     Line::Comes(Reading::Received(Field::First, 1)),
 ];
 
-// Set up like that, 16h, 41h, 16h, 16h: in sync, and nothing framed.
 const SECOND_IS_NO_SYNC_CODE: &[Line] = &[
     Line::Do(Act::Write { rs: 0, byte: 0x83 }),
     Line::Do(Act::Write { rs: 1, byte: 0x16 }),
@@ -146,7 +137,6 @@ const SECOND_IS_NO_SYNC_CODE: &[Line] = &[
     Line::Comes(Reading::Waiting(Place::One, Some(1))),
 ];
 
-// Places 3, 2 and 1 hold 41h, 42h and 43h; 44h arrives: number 3 is lost.
 const NEWEST_IS_LOST: &[Line] = &[
     Line::Do(Act::Write { rs: 0, byte: 0x43 }),
     Line::Do(Act::Write { rs: 1, byte: 0x01 }),
@@ -168,7 +158,6 @@ const NEWEST_IS_LOST: &[Line] = &[
     Line::Comes(Reading::Waiting(Place::One, Some(4))),
 ];
 
-// Loss, Status read, loss, data read, Status read: overrun still shows.
 const LOSS_AFTER_STATUS: &[Line] = &[
     Line::Do(Act::Write { rs: 0, byte: 0x43 }),
     Line::Do(Act::Write { rs: 1, byte: 0x01 }),
@@ -190,7 +179,6 @@ const LOSS_AFTER_STATUS: &[Line] = &[
     Line::Comes(Reading::Byte(0x22)),
 ];
 
-// C1 = 00h, C2 = 80h, CTS rises: Status 88h; after Clear CTS 08h.
 const CTS_IS_STORED: &[Line] = &[
     Line::Do(Act::Write { rs: 0, byte: 0x00 }),
     Line::Do(Act::Write { rs: 1, byte: 0x80 }),
@@ -203,7 +191,6 @@ const CTS_IS_STORED: &[Line] = &[
     Line::Comes(Reading::Byte(0x08)),
 ];
 
-// Two transmit writes without an idle cycle: number 1 is overwritten.
 const OVERWRITTEN: &[Line] = &[
     Line::Do(Act::Write { rs: 0, byte: 0xc1 }),
     Line::Do(Act::Write { rs: 1, byte: 0x55 }),
