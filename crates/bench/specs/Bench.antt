@@ -1,11 +1,12 @@
 -- What is done at the bench, and what is seen there, by the definitions that the adapter's calls promise. Assumes nothing.
-use Rattle.std.specs.Prelude.{◌≡◌, ℕ, zero, suc, ◌+◌, ◌*◌, ◌^◌, false, cond, List, [], ◌∷◌, ◌++◌, Ok, Err, vec_items, fold, Result, Vec, nat_lt}
+use Rattle.std.specs.Prelude.{◌≡◌, ℕ, zero, suc, ◌+◌, ◌*◌, ◌^◌, Bool, false, cond, List, [], ◌∷◌, ◌++◌, Some, None, Option, Ok, Err, vec_items, fold, Result, Vec, nat_lt}
+use Rattle.std.specs.Option.{unwrap_or}
 use Rattle.std.specs.Result.{result_err, result_unwrap_or}
 use Rattle.std.specs.declared.alloc.AllocError.{AllocError}
 use Rattle.std.specs.declared.alloc.Global.{Global}
-use Rattle.serial.specs.Events.{character_events}
+use Rattle.serial.specs.Events.{character_events, refusal_number}
 use Rattle.serial.specs.Queue.{standing_at}
-use Rattle.serial.specs.Slips.{quiet_slip}
+use Rattle.serial.specs.Slips.{quiet_slip, receive_number, queue_number, shift_number}
 use Rattle.serial.specs.declared.event.Cycle.TheVariants as cycle
 use Rattle.serial.specs.declared.event.Event.{Event}
 use Rattle.serial.specs.declared.event.Event.TheVariants.{Bus, ReceivedBit, TransmitClock, PinLevel}
@@ -97,6 +98,30 @@ looked v (reading.Refusal r) = reading.Refusal (result_err v.answer)
 looked v (reading.Line l) = reading.Line v.line
 looked v (reading.Waiting p n) = reading.Waiting p (standing_at (standing_in v.state).received p)
 looked v (reading.Shifting n) = reading.Shifting (standing_in v.state).shifting
+
+-- a signal, a refusal or none, and a character or nobody, as numbers
+abbrev pub signal : Bool → ℕ
+signal b = cond b 1 0
+
+abbrev pub refusal_in : Option Refusal → ℕ
+refusal_in None = 0
+refusal_in (Some r) = refusal_number r
+
+abbrev pub reading_number : Reading → ℕ
+reading_number (reading.Byte b) = b
+reading_number (reading.Interrupt b) = signal b
+reading_number (reading.SmDtr b) = signal b
+reading_number (reading.Underflow b) = signal b
+reading_number (reading.Receive c) = receive_number c
+reading_number (reading.Received f n) = n
+reading_number (reading.Queue c) = queue_number c
+reading_number (reading.Queued f n) = n
+reading_number (reading.Shift c) = shift_number c
+reading_number (reading.Shifted n) = n
+reading_number (reading.Refusal r) = refusal_in r
+reading_number (reading.Line l) = l
+reading_number (reading.Waiting p n) = unwrap_or n 0
+reading_number (reading.Shifting n) = unwrap_or n 0
 
 -- A SCRIPT
 

@@ -1,5 +1,5 @@
 //! The bench: an adapter, the answer to its last event, and the bits that its last clocks showed.
-ghost use Rattle.std.specs.Prelude.{◌≡◌};
+ghost use Rattle.std.specs.Prelude.{◌≡◌, ◌≤◌};
 ghost use Rattle.bench.specs.Bench.{new_seen, handed, reply_in, with_bit, clocked, clocks, heard, did, field_of, looked};
 
 use crate::script::{Act, Field, Reading};
@@ -21,11 +21,14 @@ pub struct Bench {
 }
 
 impl Model for Bench {
+    ghost use Rattle.std.specs.Prelude.{◌≤◌};
     ghost use Rattle.bench.specs.Bench.{Seen};
 
     ghost Value = { Seen };
 
     ghost view = { λ b. record { state = b.adapter; answer = b.answer; line = b.line } };
+
+    ghost invariant = { λ b. b.adapter.front.receiver.count ≤ 8 };
 }
 
 impl Bench {
@@ -42,7 +45,8 @@ impl Bench {
 
     /// Does one thing to the adapter.
     pub fn act(&mut self, act: Act)
-        ensures { self.new ≡ did self.old act }
+        ensures seen { self.new ≡ did self.old act }
+        ensures few { self.new.state.front.receiver.count ≤ 8 }
     {
         match act {
             Act::Idle => self.hand(Event::Bus(Cycle::Idle)),
@@ -57,7 +61,8 @@ impl Bench {
 
     /// What comes now, of the kind of the reading that is given, at its field or place. The value of that reading is not looked at.
     pub fn look(&self, like: Reading) -> Reading
-        ensures { result ≡ looked self.now like }
+        ensures reading { result ≡ looked self.now like }
+        ensures few { self.now.state.front.receiver.count ≤ 8 }
     {
         let reply = self.reply();
         match like {
@@ -93,14 +98,16 @@ impl Bench {
 
     // One event.
     fn hand(&mut self, event: Event)
-        ensures { self.new ≡ handed self.old event }
+        ensures seen { self.new ≡ handed self.old event }
+        ensures few { self.new.state.front.receiver.count ≤ 8 }
     {
         self.answer = self.adapter.event(event);
     }
 
     // The eight bits of a character, lowest first.
     fn receive(&mut self, byte: u8)
-        ensures { self.new ≡ heard self.old byte }
+        ensures seen { self.new ≡ heard self.old byte }
+        ensures few { self.new.state.front.receiver.count ≤ 8 }
     {
         for event in &Event::character(byte) {
             self.hand(*event);
@@ -109,7 +116,8 @@ impl Bench {
 
     // Transmit clocks, and the bits that they show.
     fn clocks(&mut self, count: u8)
-        ensures { self.new ≡ clocks self.old count }
+        ensures seen { self.new ≡ clocks self.old count }
+        ensures few { self.new.state.front.receiver.count ≤ 8 }
     {
         self.line = 0;
         for _turn in 0..count {
@@ -118,7 +126,8 @@ impl Bench {
     }
 
     fn clock(&mut self)
-        ensures { self.new ≡ clocked self.old }
+        ensures seen { self.new ≡ clocked self.old }
+        ensures few { self.new.state.front.receiver.count ≤ 8 }
     {
         let reply = self.adapter.transmit_clock();
         self.answer = Ok(reply);

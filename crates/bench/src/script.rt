@@ -1,6 +1,7 @@
 //! A script for the bench: what is done to an adapter, and what must come.
-ghost use Rattle.std.specs.Prelude.{◌↔◌, IsTrue};
+ghost use Rattle.std.specs.Prelude.{◌≡◌, ◌↔◌, IsTrue};
 
+use serial::case::Case;
 use serial::event::Refusal;
 use serial::queue::Place;
 use serial::slip::{QueueCode, ReceiveCode, ShiftCode};
@@ -43,6 +44,31 @@ pub enum Reading {
     Line(u32),
     Waiting(Place, Option<u32>),
     Shifting(Option<u32>),
+}
+
+impl Reading {
+    ghost use Rattle.bench.specs.Bench.{reading_number};
+
+    /// What is read as a number: codes and refusals have theirs, a signal is 0 or 1, and no refusal and nobody are 0.
+    pub fn number(self) -> u32
+        ensures { result ≡ reading_number self }
+    {
+        match self {
+            Reading::Byte(byte) => u32::from(byte),
+            Reading::Interrupt(level) | Reading::SmDtr(level) | Reading::Underflow(level) => {
+                u32::from(level)
+            }
+            Reading::Receive(code) => u32::from(code.number()),
+            Reading::Queue(code) => u32::from(code.number()),
+            Reading::Shift(code) => u32::from(code.number()),
+            Reading::Received(_, number) | Reading::Queued(_, number) => number,
+            Reading::Shifted(number) => number,
+            Reading::Line(bits) => bits,
+            Reading::Refusal(Some(refusal)) => u32::from(refusal.number()),
+            Reading::Refusal(None) => 0,
+            Reading::Waiting(_, number) | Reading::Shifting(number) => number.unwrap_or(0),
+        }
+    }
 }
 
 /// A line of a script, which starts on a new adapter.

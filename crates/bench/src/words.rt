@@ -1,7 +1,6 @@
 //! A script and what came of it, in words.
 use crate::script::{Act, Check, Example, Field, Line, Reading};
 use serial::case::Case;
-use serial::event::Refusal;
 use std::fmt;
 
 /// An example that was played: one line.
@@ -48,30 +47,25 @@ impl fmt::Display for Act {
     }
 }
 
-// A code and a refusal are printed as their numbers, no refusal and nobody as 0, and a signal as 0 or 1.
+// What is read, with its number.
 impl fmt::Display for Reading {
     fn fmt<W: fmt::Write>(&self, f: &mut fmt::Formatter<W>) -> fmt::Result {
+        let number = self.number();
         match *self {
-            Reading::Byte(byte) => write!(f, "byte={byte:02X}h"),
-            Reading::Interrupt(level) => write!(f, "interrupt={}", u8::from(level)),
-            Reading::SmDtr(level) => write!(f, "SM/DTR={}", u8::from(level)),
-            Reading::Underflow(level) => write!(f, "underflow={}", u8::from(level)),
-            Reading::Receive(code) => write!(f, "receive-code={}", code.number()),
-            Reading::Received(field, number) => write!(f, "received-{field}={number}"),
-            Reading::Queue(code) => write!(f, "queue-code={}", code.number()),
-            Reading::Queued(field, number) => write!(f, "queued-{field}={number}"),
-            Reading::Shift(code) => write!(f, "shift-code={}", code.number()),
-            Reading::Shifted(number) => write!(f, "shifted={number}"),
-            Reading::Refusal(refusal) => write!(
-                f,
-                "refusal={}",
-                refusal.map_or(0, Refusal::number)
-            ),
-            Reading::Line(bits) => write!(f, "line={bits:b}"),
-            Reading::Waiting(place, number) => {
-                write!(f, "place-{}={}", place.number(), number.unwrap_or(0))
-            }
-            Reading::Shifting(number) => write!(f, "shifting={}", number.unwrap_or(0)),
+            Reading::Byte(_) => write!(f, "byte={number:02X}h"),
+            Reading::Interrupt(_) => write!(f, "interrupt={number}"),
+            Reading::SmDtr(_) => write!(f, "SM/DTR={number}"),
+            Reading::Underflow(_) => write!(f, "underflow={number}"),
+            Reading::Receive(_) => write!(f, "receive-code={number}"),
+            Reading::Received(field, _) => write!(f, "received-{field}={number}"),
+            Reading::Queue(_) => write!(f, "queue-code={number}"),
+            Reading::Queued(field, _) => write!(f, "queued-{field}={number}"),
+            Reading::Shift(_) => write!(f, "shift-code={number}"),
+            Reading::Shifted(_) => write!(f, "shifted={number}"),
+            Reading::Refusal(_) => write!(f, "refusal={number}"),
+            Reading::Line(_) => write!(f, "line={number:b}"),
+            Reading::Waiting(place, _) => write!(f, "place-{}={number}", place.number()),
+            Reading::Shifting(_) => write!(f, "shifting={number}"),
         }
     }
 }

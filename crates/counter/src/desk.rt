@@ -1,5 +1,5 @@
 //! The desk: an adapter, and the slips of all events that it was handed.
-ghost use Rattle.std.specs.Prelude.{◌≡◌, []};
+ghost use Rattle.std.specs.Prelude.{◌≡◌, ◌≤◌, []};
 ghost use Rattle.serial.specs.Accounts.{accounted};
 ghost use Rattle.ssda.specs.State.{new_state};
 ghost use Rattle.ssda.specs.Stepped.{standing_in};
@@ -51,12 +51,14 @@ pub struct Desk {
 }
 
 impl Model for Desk {
-    ghost use Rattle.std.specs.Prelude.{vec_items};
+    ghost use Rattle.std.specs.Prelude.{◌≤◌, vec_items};
     ghost use Rattle.counter.specs.Desk.{Kept};
 
     ghost Value = { Kept };
 
     ghost view = { λ d. record { state = d.adapter; slips = vec_items d.slips } };
+
+    ghost invariant = { λ d. d.adapter.front.receiver.count ≤ 8 };
 }
 
 impl Desk {
@@ -72,7 +74,8 @@ impl Desk {
 
     /// One step of the story; the reply is that to its last event.
     pub fn play(&mut self, step: Step) -> Result<Reply, Fault>
-        ensures { HandedAll self.old (events_before step) (last_event step) result self.new }
+        ensures handed { HandedAll self.old (events_before step) (last_event step) result self.new }
+        ensures few { self.new.state.front.receiver.count ≤ 8 }
     {
         match step {
             Step::Write { rs, byte } => self.hand(Event::Bus(Cycle::Write { rs, byte })),
@@ -88,7 +91,8 @@ impl Desk {
 
     /// Which characters wait.
     pub fn standing(&self) -> Standing
-        ensures { result ≡ standing_in self.now.state }
+        ensures standing { result ≡ standing_in self.now.state }
+        ensures few { self.now.state.front.receiver.count ≤ 8 }
     {
         self.adapter.question()
     }
@@ -109,7 +113,8 @@ impl Desk {
 
     // Some events in order, and one more; the reply is that to the last one.
     fn hand_all(&mut self, events: &[Event], last: Event) -> Result<Reply, Fault>
-        ensures { HandedAll self.old events.now last result self.new }
+        ensures handed { HandedAll self.old events.now last result self.new }
+        ensures few { self.new.state.front.receiver.count ≤ 8 }
     {
         for event in events {
             self.hand(*event)?;
@@ -119,7 +124,8 @@ impl Desk {
 
     // One event, whose slip is kept.
     fn hand(&mut self, event: Event) -> Result<Reply, Fault>
-        ensures { Handed self.old event result self.new }
+        ensures handed { Handed self.old event result self.new }
+        ensures few { self.new.state.front.receiver.count ≤ 8 }
     {
         let reply = self.adapter.event(event)?;
         self.slips.push(reply.slip)?;

@@ -9,7 +9,7 @@ use serial::queue::Place;
 use serial::slip::{ReceiveCode, Reply, Slip, Standing};
 use std::fmt;
 
-/// What a code says of a character. A function and no `Display`, since a contract names the words.
+/// What a code says of a character; two sentences take it as a part.
 pub fn word_of(code: ReceiveCode) -> &'static str
     ensures { result.now ≡ word_of code }
 {

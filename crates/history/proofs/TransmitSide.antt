@@ -1,7 +1,7 @@
 -- What each event does on the transmit side of the adapter is what the rules say: the queue, the word being shown, what is told. Assumes nothing.
 use Rattle.std.proofs.Common.{◌≡◌, ℕ, zero, suc, ◌+◌, ◌-◌, ◌/◌, ◌%◌, ◌<◌, Bool, true, false, cond, eqb, ltb, leb, List, [], ◌∷◌, get_or, drop, Some, None, Ok, Err, Option, sym, refl, ap, ◌∙◌, subst, subst₂, inr, add-one, arith}
 use Rattle.std.proofs.lemmas.Bool.{le-leb, lt-leb, leb-true, leb-false, ltb-true, ltb-false, false≢true}
-use Rattle.std.specs.Option.{option_map, unwrap_or}
+use Rattle.std.specs.Option.{option_and_then, option_map, unwrap_or}
 use Rattle.serial.specs.Life.{Stands}
 use Rattle.serial.specs.Moves.{Act, enter, rise, take, empty, nothing, acted, queue_at, tells, tells_of}
 use Rattle.serial.specs.Queue.{empty_queue, entered, fields, list_of, numbers_by, output_taken, risen, waiting}
@@ -25,7 +25,7 @@ use Rattle.ssda.specs.declared.transmitter.Timing.{Timing}
 use Rattle.ssda.specs.declared.transmitter.Timing.TheVariants.{Showing}
 use Rattle.ssda.specs.Step.{told_of, cut_code, cleared_written, overwrite_of, write_told, tell_shift, clock_told, loaded_state, advanced_state}
 use Rattle.ssda.specs.Step as step
-use Rattle.ssda.specs.Transmitter.{byte_number, bit_shown, loads_at, shifted_on, shifting_in, word_for}
+use Rattle.ssda.specs.Transmitter.{byte_number, bit_shown, loads_at, number_if, shifted_on, shifting_in, word_for}
 use Rattle.history.specs.Events.{idles, clocks}
 use Rattle.history.specs.Settings.{History, form, Cuts, by_tx_reset, ResetsTransmitter}
 use Rattle.history.specs.Lines.{T, written, Writes, Sending, still, starting, showing, Transmitter, Loads, first_word, next_word, holds, loaded, shown}
@@ -145,6 +145,10 @@ module _ (E : History) where
   one_entry : (i j n b c : ℕ) → Writes E i n b → Writes E j n c → b ≡ c
   one_entry i j n b c x y = grind (arith, once i j n b c, once j i n c b)
 
+-- the number of a byte that was written is not 0
+named : (E : History) (b : Byte) → Entry E b → number_if b.number ≡ Some b.number
+named E b o = let h = o.writes.next in grind (arith, h)
+
 -- m is the number of the byte that is being shifted at moment k, if one is
 pub data ShiftsNow (E : History) (k : ℕ) (m : Option ℕ) : Type 0 where
   nobody : m ≡ None → ((n l j : ℕ) → Shifts E k n l j → ⊥) → ShiftsNow E k m
@@ -170,8 +174,8 @@ module _ (E : History) (k : ℕ) where
   shifts_now : (z : Sending) (x : Shift) → sending_at E k ≡ z → ShownIn E z x → ShiftsNow E k (shifting_in (timing_for E z) x)
   shifts_now still x e h = nobody refl (λ n l j y. no_word E k l j still (λ z. z) (now_at still e) y.1)
   shifts_now starting x e h = nobody refl (λ n l j y. no_word E k l j starting (λ z. z) (now_at starting e) y.1)
-  shifts_now (showing l j) x e (h, a_byte b q o m v) = somebody b.number l j (byte_shifts l j x b e h q) m
-  shifts_now (showing l j) x e (h, a_fill q m) = nobody m none
+  shifts_now (showing l j) x e (h, a_byte b q o m v) = somebody b.number l j (byte_shifts l j x b e h q) (ap (option_and_then number_if) m ∙ named E b o)
+  shifts_now (showing l j) x e (h, a_fill q m) = nobody (ap (option_and_then number_if) m) none
     where
       none : (n i p : ℕ) → Shifts E k n i p → ⊥
       none n i p y =
@@ -366,7 +370,9 @@ module _ (E : History) (bytes : WritesBytes E) (k : ℕ) (w : Sends E k (state_a
   -- a clock that loads
   loaded_word : (o : Option Byte) → s.transmit.three ≡ o → Loaded E k 0 (word_for o s.front.setup.form s.front.code s.front.setup.tx_sync)
   loaded_word None e = a_fill (sym (ap (λ q. q.three) w.numbers) ∙ ap (option_map byte_number) e) refl
-  loaded_word (Some b) e = a_byte b (sym (ap (λ q. q.three) w.numbers) ∙ ap (option_map byte_number) e) (subst (Holds (Entry E)) e w.contents.third) refl (ap (λ F. value_of (word_of F b.byte)) (form_now E bytes k))
+  loaded_word (Some b) e =
+      let o = subst (Holds (Entry E)) e w.contents.third in
+      a_byte b (sym (ap (λ q. q.three) w.numbers) ∙ ap (option_map byte_number) e) o (named E b o) (ap (λ F. value_of (word_of F b.byte)) (form_now E bytes k))
 
   load_passed : Loads E k → loads_at timing ≡ true → Passed E k s (step.clocked s) (Ok (clock_told s))
   load_passed h e =

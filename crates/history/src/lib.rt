@@ -73,17 +73,56 @@ fn begin() -> Adapter
     Adapter::new()
 }
 
-/// Does nothing: its contract states what holds of every history, without any condition:
+/// Does nothing: its contract states what holds whatever is run:
 /// - the rules settle every fate, whatever an adapter answers;
 /// - the law leaves no choice: the history fixes what each answer tells;
 /// - the interrupt in a reply is bit 7 of a Status read made next;
-/// - the adapter's receiver and transmitter go by the rules of framing and sending, at every moment.
+/// - the adapter's receiver and transmitter go by the rules of framing and sending, at every moment of every history whose writes are bytes.
 pub fn theorems()
     ensures settled { AllSettled }
     ensures pinned { Pinned }
     ensures shown { InterruptShown }
     ensures tied { LinesTied }
 {}
+
+// What the four calls below answer, each of which states one of these theorems: the number means nothing.
+const NOTHING: u8 = 0;
+
+/// The rules settle every fate, whatever an adapter answers.
+pub fn fates_settled() -> u8
+    ensures settled { AllSettled }
+    ensures value { result ≡ 0 }
+{
+    theorems();
+    NOTHING
+}
+
+/// The law leaves no choice: the history fixes what each answer tells.
+pub fn law_pins() -> u8
+    ensures pinned { Pinned }
+    ensures value { result ≡ 0 }
+{
+    theorems();
+    NOTHING
+}
+
+/// The interrupt in a reply is bit 7 of a Status read made next.
+pub fn interrupt_shown() -> u8
+    ensures shown { InterruptShown }
+    ensures value { result ≡ 0 }
+{
+    theorems();
+    NOTHING
+}
+
+/// The adapter's receiver and transmitter go by the rules of framing and sending, at every moment of every history whose writes are bytes.
+pub fn lines_tied() -> u8
+    ensures tied { LinesTied }
+    ensures value { result ≡ 0 }
+{
+    theorems();
+    NOTHING
+}
 
 #[cfg(test)]
 mod tests;

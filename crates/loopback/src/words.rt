@@ -1,21 +1,16 @@
-//! The table in words.
-use crate::tally::{Row, Table};
+//! The table in words, line by line.
+use crate::tally::{Row, Tally};
 use std::fmt;
 
-impl fmt::Display for Table {
+/// The line above the rows.
+#[derive(Clone, Copy, Debug)]
+pub struct Heading;
+
+impl fmt::Display for Heading {
     fn fmt<W: fmt::Write>(&self, f: &mut fmt::Formatter<W>) -> fmt::Result {
-        writeln!(
+        write!(
             f,
             "form    select  data bits  total bits  words  line bits  read back clean  flips marked"
-        )?;
-        for row in &self.rows {
-            writeln!(f, "{row}")?;
-        }
-        let total = self.total;
-        writeln!(
-            f,
-            "total: {} words, {} line bits; {} read back clean; with one bit flipped {} of {} marked",
-            total.words, total.bits, total.clean, total.marked, total.words
         )
     }
 }
@@ -33,6 +28,21 @@ impl fmt::Display for Row {
             self.tally.bits,
             self.tally.clean,
             self.tally.marked
+        )
+    }
+}
+
+/// The line below the rows.
+#[derive(Clone, Copy, Debug)]
+pub struct Total(pub Tally);
+
+impl fmt::Display for Total {
+    fn fmt<W: fmt::Write>(&self, f: &mut fmt::Formatter<W>) -> fmt::Result {
+        let total = self.0;
+        write!(
+            f,
+            "total: {} words, {} line bits; {} read back clean; with one bit flipped {} of {} marked",
+            total.words, total.bits, total.clean, total.marked, total.words
         )
     }
 }

@@ -45,6 +45,12 @@ ones_bits zero b = sym (ones_bit 0 (lit< tt)) ∙ ap ones (sym (mod-one b))
 ones_bits (suc n) b =
     omega (arith, ones_bits n (b / 2), ones_bit (b % 2) (omega arith), ones_cat 1 (b / 2 % 2 ^ n) (b % 2) (omega arith), ap ones (mod_more n b))
 
+-- the first m of n bits
+pub take_bits : (m n b : ℕ) → m ≤ n → take m (bits_of n b) ≡ bits_of m b
+take_bits zero n b h = refl
+take_bits (suc m) zero b h = absurd (omega arith)
+take_bits (suc m) (suc n) b h = ap (λ xs. b % 2 ∷ xs) (take_bits m n (b / 2) (le_of_suc-le-suc h))
+
 -- one more bit at the end weighs as much as the bits before it allow
 pub value_push : (xs : List ℕ) (x : ℕ) → value_of (xs ++ x ∷ []) ≡ value_of xs + x * 2 ^ length xs
 value_push [] x = omega arith

@@ -1,6 +1,6 @@
 -- The words of the line: a byte as bits, and bits as a byte.
 -- A list of bits has the first bit on the line first; a bit is 0 or 1. Assumes nothing.
-use Rattle.std.specs.Prelude.{◌≡◌, ℕ, zero, suc, ◌+◌, ◌-◌, ◌*◌, ◌/◌, ◌%◌, ◌^◌, ◌<◌, min, Bool, true, false, cond, List, [], ◌∷◌, ◌++◌, length, take, replicate, Some, None, Option, ◌==◌, nat_lt, slice_index}
+use Rattle.std.specs.Prelude.{◌≡◌, ℕ, zero, suc, ◌+◌, ◌-◌, ◌*◌, ◌/◌, ◌%◌, ◌^◌, ◌<◌, min, Bool, true, false, cond, List, [], ◌∷◌, ◌++◌, length, take, replicate, codes, Some, None, Option, ◌==◌, nat_lt, slice_index}
 use Rattle.serial.specs.Numbers.{numbered}
 use Rattle.serial.specs.declared.word.Form.{Form}
 use Rattle.serial.specs.declared.word.Form.TheVariants.{SixEven, SixOdd, Seven, Eight, SevenEven, SevenOdd, EightEven, EightOdd}
@@ -43,6 +43,12 @@ data_bits f = (shape_of f).width
 
 abbrev pub parity_of : Form → Parity
 parity_of f = (shape_of f).parity
+
+-- a parity in words
+abbrev pub parity_name : Parity → List ℕ
+parity_name Bare = codes "bare"
+parity_name Even = codes "even"
+parity_name Odd = codes "odd"
 
 abbrev pub parity_bits : Parity → ℕ
 parity_bits Bare = 0

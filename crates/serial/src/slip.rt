@@ -71,7 +71,7 @@ impl Case for ReceiveCode {
     ghost case_of = { receive_of };
 
     fn number(self) -> u8 {
-        self as u8
+        self as u8 // from 0 to 5
     }
 }
 
@@ -81,7 +81,7 @@ impl Case for QueueCode {
     ghost case_of = { queue_code_of };
 
     fn number(self) -> u8 {
-        self as u8
+        self as u8 // from 0 to 2
     }
 }
 
@@ -91,7 +91,7 @@ impl Case for ShiftCode {
     ghost case_of = { shift_of };
 
     fn number(self) -> u8 {
-        self as u8
+        self as u8 // from 0 to 3
     }
 }
 

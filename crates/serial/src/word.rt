@@ -209,6 +209,14 @@ impl Form {
 }
 
 impl fmt::Display for Parity {
+    ghost use Rattle.std.specs.Prelude.{Some};
+    ghost use Rattle.std.specs.Fmt.{padded};
+    ghost use Rattle.serial.specs.Words.{parity_name};
+
+    ghost output = { λ parity. Some (parity_name parity) };
+
+    ghost styled_output = { λ parity spec. Some (padded spec (parity_name parity)) };
+
     fn fmt<W: fmt::Write>(&self, f: &mut fmt::Formatter<W>) -> fmt::Result {
         f.pad(match self {
             Parity::Bare => "bare",

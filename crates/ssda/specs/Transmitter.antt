@@ -1,5 +1,6 @@
 -- The transmitter: when it loads, which word it loads, and the bits that it shows. Assumes nothing.
-use Rattle.std.specs.Prelude.{ℕ, ◌-◌, ◌/◌, ◌%◌, Bool, true, false, cond, Some, None, Option, nat_le}
+use Rattle.std.specs.Prelude.{ℕ, ◌-◌, ◌/◌, ◌%◌, Bool, true, false, cond, Some, None, Option, ◌==◌, nat_le}
+use Rattle.std.specs.Option.{option_and_then}
 use Rattle.serial.specs.declared.word.Form.{Form}
 use Rattle.serial.specs.Words.{value_of, word_of, sync_fill, mark_fill}
 use Rattle.ssda.specs.declared.transmitter.Byte.{Byte}
@@ -33,9 +34,13 @@ timing_after t was_held is_held = cond is_held Held (cond was_held Starting t)
 abbrev pub empty_shift : Shift
 empty_shift = record { bits = 0; number = None }
 
+-- a number as that of a byte: 0 is nobody's
+abbrev pub number_if : ℕ → Option ℕ
+number_if n = cond (n == 0) None (Some n)
+
 -- what is loaded: the word of the byte at the output; with none there the sync fill if Tx Sync is set, else the mark fill
 abbrev pub word_for : Option Byte → Form → ℕ → Bool → Shift
-word_for (Some b) f c sync = record { bits = value_of (word_of f b.byte); number = Some b.number }
+word_for (Some b) f c sync = record { bits = value_of (word_of f b.byte); number = number_if b.number }
 word_for None f c sync = record { bits = value_of (cond sync (sync_fill f c) (mark_fill f)); number = None }
 
 abbrev pub underflows_for : Option Byte → Bool → Bool
@@ -55,4 +60,4 @@ bit_shown (Showing left) s = s.bits % 2
 abbrev pub shifting_in : Timing → Shift → Option ℕ
 shifting_in Held s = None
 shifting_in Starting s = None
-shifting_in (Showing left) s = s.number
+shifting_in (Showing left) s = option_and_then number_if s.number

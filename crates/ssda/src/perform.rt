@@ -22,7 +22,7 @@ impl State {
     }
 
     // Performs an event that is not declined.
-    fn perform(&mut self, event: Event) -> Reply
+    pub(crate) fn perform(&mut self, event: Event) -> Reply
         requires { checked_by self.old.front event ≡ Ok tt }
         ensures state { self.new ≡ performed self.old event }
         ensures reply { result ≡ replied self.old event }

@@ -1,6 +1,6 @@
 //! The transmitter: when it loads a word, which word that is, and the bits that it shows.
 ghost use Rattle.std.specs.Prelude.{◌≡◌};
-ghost use Rattle.ssda.specs.Transmitter.{loads_at, ticked, timing_after, byte_number, empty_shift, word_for, underflows_for, shifted_on, bit_shown, shifting_in};
+ghost use Rattle.ssda.specs.Transmitter.{loads_at, ticked, timing_after, byte_number, empty_shift, number_if, word_for, underflows_for, shifted_on, bit_shown, shifting_in};
 
 use crate::control::Setup;
 use serial::queue::Numbered;
@@ -92,7 +92,7 @@ impl Shift {
         };
         *self = Shift {
             bits,
-            number: output.map(|byte| byte.number),
+            number: output.and_then(|byte| number_if(byte.number)),
         };
         output.is_none() && setup.tx_sync
     }
@@ -130,7 +130,14 @@ impl Shift {
     {
         match timing {
             Timing::Held | Timing::Starting => None,
-            Timing::Showing { .. } => self.number,
+            Timing::Showing { .. } => self.number.and_then(number_if),
         }
     }
+}
+
+// A number as that of a byte: 0 is nobody's.
+fn number_if(number: u32) -> Option<u32>
+    ensures { result ≡ number_if number }
+{
+    (number != 0).then_some(number)
 }

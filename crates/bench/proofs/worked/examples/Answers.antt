@@ -1,10 +1,5 @@
-use Rattle.std.proofs.Common.{refl}
 use Rattle.bench.proofs.Examples.{worked_hold}
 use Rattle.bench.proofs.worked.examples.Goals as goal
-
--- the table is compared entry by entry, and the theorem holds of it; nothing is searched for
-pub returns-clause-table : goal.returns-clause-table
-returns-clause-table c = refl
 
 pub returns-clause-hold : goal.returns-clause-hold
 returns-clause-hold c = worked_hold
