@@ -99,14 +99,16 @@ impl Desk {
 
     /// What became of all characters so far.
     pub fn account(&self) -> Result<Account, Fault>
-        ensures { result ≡ or_declined (accounted self.now.slips) }
+        ensures account { result ≡ or_declined (accounted self.now.slips) }
+        ensures few { self.now.state.front.receiver.count ≤ 8 }
     {
         Ok(Account::of(self.slips.as_slice())?)
     }
 
     /// What became of one character: nothing yet if no slip names it.
     pub fn fate(&self, number: u32) -> ReceiveCode
-        ensures { result ≡ fate_in number self.now.slips }
+        ensures fate { result ≡ fate_in number self.now.slips }
+        ensures few { self.now.state.front.receiver.count ≤ 8 }
     {
         fate_in(self.slips.as_slice(), number)
     }
