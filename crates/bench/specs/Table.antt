@@ -1,6 +1,7 @@
 -- The tables of examples, and that all of them hold. Assumes nothing.
-use Rattle.std.specs.Prelude.{ℕ, List, [], ◌∷◌, codes}
+use Rattle.std.specs.Prelude.{ℕ, List, [], ◌∷◌, codes, map, get_or}
 use Rattle.std.specs.List.{AllByRecursion}
+use Rattle.std.specs.Borrow.{Bor}
 use Rattle.bench.specs.declared.script.Example.{Example}
 use Rattle.bench.specs.declared.script.Line.{Line}
 use Rattle.bench.specs.Bench.{Holds, new_seen}
@@ -17,6 +18,10 @@ entry t ls = record { title = t; script = ls }
 
 abbrev pub entry_of : Example → Entry
 entry_of e = entry e.title.now e.script.now
+
+-- the script in that row of a table, counted from 0; none where the table has no such row
+abbrev pub script_at : ℕ → List (Bor Example) → List Line
+script_at k es = get_or (map (λ e. e.now.script.now) es) k []
 
 -- the worked examples of the rules, and further ones
 abbrev pub worked : List Entry

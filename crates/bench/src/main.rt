@@ -30,11 +30,11 @@ fn run(rt: &HostRuntime) -> anyhow::Result<()> {
 }
 
 // Runs examples, and answers how many came as they should.
-fn run_all(rt: &HostRuntime, examples: &[Example]) -> anyhow::Result<usize>
+fn run_all(rt: &HostRuntime, examples: &[&Example]) -> anyhow::Result<usize>
     ensures { IfOk result (λ passed. passed ≤ length examples.now) }
 {
     let mut passed = 0;
-    for example in examples {
+    for &example in examples {
         let checks = play(rt.alloc(), example.script)?;
         let ok = all_agree(checks.as_slice());
         let report = Report {

@@ -1,6 +1,7 @@
 //! The worked examples of the rules, each as in the table of specs/.
 ghost use Rattle.std.specs.Prelude.{◌≡◌, map};
-ghost use Rattle.bench.specs.Table.{entry_of, worked, WorkedHold};
+ghost use Rattle.bench.specs.Table.{entry_of, script_at, worked, WorkedHold};
+ghost use Rattle.bench.specs.Worked as rule;
 
 use crate::script::{Act, Example, Field, Line, Reading};
 use serial::queue::Place;
@@ -200,69 +201,83 @@ const OVERWRITTEN: &[Line] = &[
     Line::Comes(Reading::Queued(Field::First, 1)),
 ];
 
-// Each with what it shows.
-static EXAMPLES: [Example; 14] = [
-    Example {
+// Each with what it shows. The rows are references: with these the check can find values at which the clause of a wrong script fails.
+static EXAMPLES: [&Example; 14] = [
+    &Example {
         title: "41h in 7 with even parity is 10000010",
         script: SEVEN_WITH_EVEN,
     },
-    Example {
+    &Example {
         title: "41h in 7 with odd parity is 10000011",
         script: SEVEN_WITH_ODD,
     },
-    Example {
+    &Example {
         title: "FFh in 6 with odd parity is 1111111",
         script: SIX_WITH_ODD,
     },
-    Example {
+    &Example {
         title: "the sync fill 16h in form 000 is 0110100",
         script: SYNC_FILL_OF_SEVEN,
     },
-    Example {
+    &Example {
         title: "the sync fill 16h in form 110 is 011010001",
         script: SYNC_FILL_OF_NINE,
     },
-    Example {
+    &Example {
         title: "the mark fill in form 110 is nine ones, and TUF stays 0",
         script: MARK_FILL,
     },
-    Example {
+    &Example {
         title: "a new Status is 00h; after C1 = 00h it is 02h, and after C1 = 10h 82h",
         script: NEW_STATUS,
     },
-    Example {
+    &Example {
         title: "form 011, 1-sync, code 7Fh, restart, one bit 0: in sync",
         script: ONE_BIT_TO_SYNC,
     },
-    Example {
+    &Example {
         title: "form 011, code 16h, two sync codes asked for: after 16h, 16h comes 41h as number 1",
         script: TWO_SYNC_CODES,
     },
-    Example {
+    &Example {
         title: "set up like that, 16h, 41h, 16h, 16h: in sync, and nothing framed",
         script: SECOND_IS_NO_SYNC_CODE,
     },
-    Example {
+    &Example {
         title: "places 3, 2 and 1 hold 41h, 42h and 43h; 44h arrives: number 3 is lost",
         script: NEWEST_IS_LOST,
     },
-    Example {
+    &Example {
         title: "loss, Status read, loss, data read, Status read: overrun still shows",
         script: LOSS_AFTER_STATUS,
     },
-    Example {
+    &Example {
         title: "C1 = 00h, C2 = 80h, CTS rises: Status 88h; after Clear CTS 08h",
         script: CTS_IS_STORED,
     },
-    Example {
+    &Example {
         title: "two transmit writes without an idle cycle: number 1 is overwritten",
         script: OVERWRITTEN,
     },
 ];
 
 /// The worked examples of the rules. All that must come by them does come.
-pub fn examples() -> &'static [Example; 14]
-    ensures table { map entry_of result.now ≡ worked }
+pub fn examples() -> &'static [&'static Example; 14]
+    ensures seven_with_even { script_at 0 result.now ≡ rule.seven_with_even }
+    ensures seven_with_odd { script_at 1 result.now ≡ rule.seven_with_odd }
+    ensures six_with_odd { script_at 2 result.now ≡ rule.six_with_odd }
+    ensures sync_fill_of_seven { script_at 3 result.now ≡ rule.sync_fill_of_seven }
+    ensures sync_fill_of_nine { script_at 4 result.now ≡ rule.sync_fill_of_nine }
+    ensures mark_fill { script_at 5 result.now ≡ rule.mark_fill }
+    ensures new_status { script_at 6 result.now ≡ rule.new_status }
+    ensures one_bit_to_sync { script_at 7 result.now ≡ rule.one_bit_to_sync }
+    ensures two_sync_codes { script_at 8 result.now ≡ rule.two_sync_codes }
+    ensures second_is_no_sync_code { script_at 9 result.now ≡ rule.second_is_no_sync_code }
+    ensures newest_is_lost { script_at 10 result.now ≡ rule.newest_is_lost }
+    ensures loss_after_status { script_at 11 result.now ≡ rule.loss_after_status }
+    ensures cts_is_stored { script_at 12 result.now ≡ rule.cts_is_stored }
+    ensures overwritten { script_at 13 result.now ≡ rule.overwritten }
+    ensures table { map (λ e. entry_of e.now) result.now ≡ worked }
     ensures hold { WorkedHold }
 {
     &EXAMPLES
