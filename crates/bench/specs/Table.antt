@@ -19,7 +19,7 @@ entry t ls = record { title = t; script = ls }
 abbrev pub entry_of : Example → Entry
 entry_of e = entry e.title.now e.script.now
 
--- the script in that row of a table, counted from 0; none where the table has no such row
+-- the script in that row of a table, counted from 0; empty, as no script of the tables is, where there is no such row
 abbrev pub script_at : ℕ → List (Bor Example) → List Line
 script_at k es = get_or (map (λ e. e.now.script.now) es) k []
 
